@@ -1,0 +1,5 @@
+pub mod Linear
+pub mod Quote
+pub mod Machine
+pub mod Rounding
+pub mod Products

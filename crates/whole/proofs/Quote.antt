@@ -1,0 +1,92 @@
+-- A reflective solver for ℤ: an expression, its value, and its value as two naturals multiplied out, which `omega` compares monomial by monomial.
+use mathlib.Core.Path.{_≡_, refl, sym, ap, _∙_, subst}
+use Prim.Native.Nat.{ℕ, zero, suc, _+_, _*_, _≤_, _<_}
+use native.Mathlib.Omega.{arith}
+use lib.IntN.{ℤ, pos, negsuc, negℤ, _+ℤ_, _-ℤ_, _*ℤ_}
+use lib.Signed.{_≤ℤ_, _<ℤ_}
+use Prim.Native.Nat.{_-_, _^_}
+use mir.Syntax.{w64}
+use mir.Val.{SFits}
+use Rattle.whole.specs.Whole.{P, N}
+use Rattle.whole.proofs.Linear.{least, fits!, add-law, P-neg, N-neg, mul-P, mul-N, eq⇒, ⇒eq, le⇒, ⇒le}
+
+infixl 6 _⊕_ _⊝_
+infixl 7 _⊗_
+pub data E : Type 0 where
+  ⟨_⟩ : ℤ → E
+  # : ℕ → E
+  _⊕_ _⊝_ _⊗_ : E → E → E
+  ⊖ : E → E
+
+abbrev pub ev : E → ℤ
+ev ⟨ z ⟩ = z
+ev (# n) = pos n
+ev (a ⊕ b) = ev a +ℤ ev b
+ev (a ⊝ b) = ev a -ℤ ev b
+ev (a ⊗ b) = ev a *ℤ ev b
+ev (⊖ a) = negℤ (ev a)
+
+abbrev mutual
+  pub up : E → ℕ
+  up ⟨ z ⟩ = P z
+  up (# n) = n
+  up (a ⊕ b) = up a + up b
+  up (a ⊝ b) = up a + dn b
+  up (a ⊗ b) = up a * up b + dn a * dn b
+  up (⊖ a) = dn a
+
+  pub dn : E → ℕ
+  dn ⟨ z ⟩ = N z
+  dn (# n) = 0
+  dn (a ⊕ b) = dn a + dn b
+  dn (a ⊝ b) = dn a + up b
+  dn (a ⊗ b) = up a * dn b + dn a * up b
+  dn (⊖ a) = up a
+
+mul-bal : (p n u d q m v e : ℕ) → p + d ≡ n + u → q + e ≡ m + v → p * q + n * m + (u * e + d * v) ≡ p * m + n * q + (u * v + d * e)
+mul-bal p n u d q m v e h k =
+    omega (arith, ap (λ (x : ℕ). x * q) h, ap (λ (x : ℕ). x * m) h, ap (λ (x : ℕ). u * x) k, ap (λ (x : ℕ). d * x) k)
+
+-- the value's two naturals balance the expression's
+pub bal : (a : E) → P (ev a) + dn a ≡ N (ev a) + up a
+bal ⟨ z ⟩ = omega arith
+bal (# n) = omega arith
+bal (a ⊕ b) = omega (arith, add-law (ev a) (ev b), bal a, bal b)
+bal (a ⊝ b) = omega (arith, add-law (ev a) (negℤ (ev b)), P-neg (ev b), N-neg (ev b), bal a, bal b)
+bal (a ⊗ b) = omega (arith, mul-P (ev a) (ev b), mul-N (ev a) (ev b), mul-bal (P (ev a)) (N (ev a)) (up a) (dn a) (P (ev b)) (N (ev b)) (up b) (dn b) (bal a) (bal b))
+bal (⊖ a) = omega (arith, P-neg (ev a), N-neg (ev a), bal a)
+
+-- goals
+pub by≡ : (a b : E) → up a + dn b ≡ up b + dn a → ev a ≡ ev b
+by≡ a b h = ⇒eq (ev a) (ev b) (omega (arith, bal a, bal b))
+
+pub by≤ : (a b : E) → up a + dn b ≤ up b + dn a → ev a ≤ℤ ev b
+by≤ a b h = ⇒le (ev a) (ev b) (omega (arith, bal a, bal b))
+
+-- hypotheses
+pub of≡ : (a b : E) → ev a ≡ ev b → up a + dn b ≡ up b + dn a
+of≡ a b h = omega (arith, bal a, bal b, eq⇒ (ev a) (ev b) h)
+
+pub of≤ : (a b : E) → ev a ≤ℤ ev b → up a + dn b ≤ up b + dn a
+of≤ a b h = omega (arith, bal a, bal b, le⇒ (ev a) (ev b) h)
+
+-- it fits an i64
+pub fit : (a : E) → (up a - dn a) + (dn a - up a - 1) < 2 ^ 63 → SFits w64 (ev a)
+fit a h = fits! (ev a) (omega (arith, bal a))
+
+-- a value's parts are at most the expression's: a bound on each variable's parts gives one on the value
+pub part : (a : E) → (P (ev a) ≤ up a) × (N (ev a) ≤ dn a)
+part a = least (ev a) (up a) (dn a) (bal a)
+
+-- ---- what IntN lacks
+pub *ℤ-+ℤ : (a b c : ℤ) → a *ℤ (b +ℤ c) ≡ a *ℤ b +ℤ a *ℤ c
+*ℤ-+ℤ a b c = by≡ (⟨ a ⟩ ⊗ (⟨ b ⟩ ⊕ ⟨ c ⟩)) (⟨ a ⟩ ⊗ ⟨ b ⟩ ⊕ ⟨ a ⟩ ⊗ ⟨ c ⟩) (omega arith)
+
+pub +ℤ-*ℤ : (a b c : ℤ) → (a +ℤ b) *ℤ c ≡ a *ℤ c +ℤ b *ℤ c
++ℤ-*ℤ a b c = by≡ ((⟨ a ⟩ ⊕ ⟨ b ⟩) ⊗ ⟨ c ⟩) (⟨ a ⟩ ⊗ ⟨ c ⟩ ⊕ ⟨ b ⟩ ⊗ ⟨ c ⟩) (omega arith)
+
+pub *ℤ-assoc : (a b c : ℤ) → (a *ℤ b) *ℤ c ≡ a *ℤ (b *ℤ c)
+*ℤ-assoc a b c = by≡ (⟨ a ⟩ ⊗ ⟨ b ⟩ ⊗ ⟨ c ⟩) (⟨ a ⟩ ⊗ (⟨ b ⟩ ⊗ ⟨ c ⟩)) (omega arith)
+
+pub neg-*ℤ : (a b : ℤ) → negℤ a *ℤ b ≡ negℤ (a *ℤ b)
+neg-*ℤ a b = by≡ (⊖ ⟨ a ⟩ ⊗ ⟨ b ⟩) (⊖ (⟨ a ⟩ ⊗ ⟨ b ⟩)) (omega arith)

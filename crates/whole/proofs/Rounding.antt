@@ -1,0 +1,107 @@
+-- Laws of R, floor and modulo: symmetry, size, nearness, exactness at a multiple, order; and of the line between two days.
+use mathlib.Core.Path.{_≡_, refl, sym, ap, _∙_}
+use Prim.Native.Nat.{ℕ, zero, suc, _+_, _*_, _/_, _≤_, _<_}
+use Prim.Native.Nat.{_-_, _%_}
+use native.Mathlib.Nat.{div-mul-le-self, le-div-iff-mul-le, mul-div-le, lt-div-mul-add, div-eq-of-lt-le, mod-lt, div-add-mod', div-lt-iff-lt-mul, mul-le-mul-left, le-of-suc-le-suc, mul-pos, zero-div}
+use native.Mathlib.Omega.{arith}
+use native.Mathlib.Nat.{add-zero, zero-add}
+use lib.Dec.{leb·suc-zero}
+use lib.Signed.{ltZ, _≤ℤ_}
+use lib.IntN.{ℤ, pos, negsuc, negℤ, negℤ-negℤ, _+ℤ_, _-ℤ_, _*ℤ_}
+use Rattle.whole.specs.Whole.{near, R, signOf, floorZ, modZ, line}
+use Rattle.whole.specs.Whole.{P, N, ∣_∣}
+use Rattle.whole.proofs.Linear.{P-neg, N-neg, zarith, mul-nonneg, mul-mono}
+use Rattle.whole.proofs.Quote.{⟨_⟩, #, _⊕_, _⊝_, _⊗_, ⊖, bal, by≡, by≤, of≤}
+
+pub near-le : (a b : ℕ) → 0 < b → near a b ≤ a
+near-le a b h =
+    le-of-suc-le-suc (div-lt-iff-lt-mul (mul-pos {m = 2} {n = b} (omega arith) h) .1 (omega (arith, mul-le-mul-left (2 * a) h)))
+
+pub near-zero : (b : ℕ) → 0 < b → near 0 b ≡ 0
+near-zero b h = omega (arith, near-le 0 b h)
+
+pub R-neg : (z : ℤ) (b : ℕ) → 0 < b → R (negℤ z) b ≡ negℤ (R z b)
+R-neg (pos zero) b h = simp (near-zero b h)
+R-neg (pos (suc n)) b h = refl
+R-neg (negsuc n) b h = sym (negℤ-negℤ (pos (near (suc n) b)))
+
+pub R-abs : (z : ℤ) (b : ℕ) → 0 < b → ∣ R z b ∣ ≤ ∣ z ∣
+R-abs (pos n) b h = omega (arith, near-le n b h)
+R-abs (negsuc n) b h = omega (arith, near-le (suc n) b h, P-neg (pos (near (suc n) b)), N-neg (pos (near (suc n) b)))
+
+-- by the sign and the magnitude, as code that splits the sign off first has it
+pub R-split : (z : ℤ) (b : ℕ) → signOf (ltZ z (pos 0)) (near ∣ z ∣ b) ≡ R z b
+R-split (pos n) b = simp (leb·suc-zero, add-zero)
+R-split (negsuc n) b = simp zero-add
+
+-- ---- how far: |2 (z - R z b · b)| ≤ b
+pub near-lo : (a b : ℕ) → 2 * (near a b * b) ≤ 2 * a + b
+near-lo a b = omega (arith, mul-div-le (2 * a + b) (2 * b))
+
+pub near-hi : (a b : ℕ) → 0 < b → 2 * a ≤ 2 * (near a b * b) + b
+near-hi a b h = omega (arith, lt-div-mul-add {a = 2 * a + b} {b = 2 * b} (mul-pos {m = 2} {n = b} (omega arith) h))
+
+-- |x| from both sides, where x is u less d
+pub abs-diff : (x : ℤ) (u d k : ℕ) → P x + d ≡ N x + u → 2 * u ≤ 2 * d + k → 2 * d ≤ 2 * u + k → 2 * ∣ x ∣ ≤ k
+abs-diff (pos n) u d k e h l = omega arith
+abs-diff (negsuc n) u d k e h l = omega arith
+
+pub R-near : (z : ℤ) (b : ℕ) → 0 < b → 2 * ∣ z -ℤ R z b *ℤ pos b ∣ ≤ b
+R-near (pos a) b h =
+    abs-diff (pos a -ℤ pos (near a b * b)) a (near a b * b) b (omega (arith, bal (# a ⊝ # (near a b * b)))) (omega (arith, near-hi a b h)) (omega (arith, near-lo a b))
+R-near (negsuc a) b h =
+    let q = near (suc a) b in
+    abs-diff (negsuc a -ℤ negℤ (pos q) *ℤ pos b) (q * b) (suc a) b (omega (arith, bal (⟨ negsuc a ⟩ ⊝ ⊖ (# q) ⊗ # b))) (omega (arith, near-lo (suc a) b)) (omega (arith, near-hi (suc a) b h))
+
+-- ---- exact at a multiple
+pub near-mul : (a b : ℕ) → 0 < b → near (a * b) b ≡ a
+near-mul a b h = div-eq-of-lt-le (2 * b) (omega arith) (omega arith)
+
+pub R-mul : (z : ℤ) (b : ℕ) → 0 < b → R (z *ℤ pos b) b ≡ z
+R-mul (pos a) b h = ap pos (near-mul a b h)
+R-mul (negsuc a) b h = R-neg (pos (suc a * b)) b h ∙ ap (λ (n : ℕ). negℤ (pos n)) (near-mul (suc a) b h)
+
+-- ---- swapping the ends turns the step round
+pub swap : (v0 v1 u : ℤ) → line v0 v1 u -ℤ v0 ≡ negℤ (line v1 v0 u -ℤ v1)
+swap v0 v1 u =
+    let r = R ((v1 -ℤ v0) *ℤ u) 86400000 in
+    let e : R ((v0 -ℤ v1) *ℤ u) 86400000 ≡ negℤ r =
+    ap (λ (z : ℤ). R z 86400000) (by≡ ((⟨ v0 ⟩ ⊝ ⟨ v1 ⟩) ⊗ ⟨ u ⟩) (⊖ ((⟨ v1 ⟩ ⊝ ⟨ v0 ⟩) ⊗ ⟨ u ⟩)) (omega arith)) ∙ R-neg ((v1 -ℤ v0) *ℤ u) 86400000 (omega arith) in
+    by≡ (⟨ v0 ⟩ ⊕ ⟨ r ⟩ ⊝ ⟨ v0 ⟩) (⊖ (⟨ v1 ⟩ ⊕ ⊖ ⟨ r ⟩ ⊝ ⟨ v1 ⟩)) (omega arith) ∙ ap (λ (z : ℤ). negℤ (v1 +ℤ z -ℤ v1)) (sym e)
+
+-- ---- rounded down: the quotient and the rest
+pub mod-below : (z : ℤ) (b : ℕ) → 0 < b → modZ z b < b
+mod-below (pos a) b h = mod-lt a h
+mod-below (negsuc a) b h = omega (arith, mod-lt a h)
+
+pub floor-mod : (z : ℤ) (b : ℕ) → 0 < b → floorZ z b *ℤ pos b +ℤ pos (modZ z b) ≡ z
+floor-mod (pos a) b h = ap pos (div-add-mod' a b)
+floor-mod (negsuc a) b h =
+    by≡ (⟨ negsuc (a / b) ⟩ ⊗ # b ⊕ # (b - suc (a % b))) ⟨ negsuc a ⟩ (omega (arith, mod-lt a h, div-add-mod' a b))
+
+-- ---- monotone, and so between the ends
+pub near-mono : (a c b : ℕ) → 0 < b → a ≤ c → near a b ≤ near c b
+near-mono a c b h k = le-div-iff-mul-le (mul-pos {m = 2} {n = b} (omega arith) h) .1 (omega (arith, div-mul-le-self (2 * a + b) (2 * b)))
+
+pub R-mono : (z w : ℤ) (b : ℕ) → 0 < b → z ≤ℤ w → R z b ≤ℤ R w b
+R-mono (pos a) (pos c) b h k = omega (zarith, near-mono a c b h (omega zarith))
+R-mono (pos a) (negsuc c) b h k = absurd (k .le)
+R-mono (negsuc a) (pos c) b h k = omega (zarith, P-neg (pos (near (suc a) b)), N-neg (pos (near (suc a) b)))
+R-mono (negsuc a) (negsuc c) b h k =
+    omega (zarith, near-mono (suc c) (suc a) b h (omega zarith), P-neg (pos (near (suc a) b)), N-neg (pos (near (suc a) b)), P-neg (pos (near (suc c) b)), N-neg (pos (near (suc c) b)))
+
+pub between : (v0 v1 u : ℤ) → v0 ≤ℤ v1 → pos 0 ≤ℤ u → u ≤ℤ pos 86400000 → (v0 ≤ℤ line v0 v1 u) × (line v0 v1 u ≤ℤ v1)
+between v0 v1 u h lo hi =
+    let d = v1 -ℤ v0 in
+    let r = R (d *ℤ u) 86400000 in
+    let nd : pos 0 ≤ℤ d = by≤ (# 0) (⟨ v1 ⟩ ⊝ ⟨ v0 ⟩) (omega zarith) in
+    let l : pos 0 ≤ℤ r = R-mono (pos 0) (d *ℤ u) 86400000 (omega arith) (mul-nonneg d u nd lo) in
+    let m : r ≤ℤ d = rw (R-mul d 86400000 (omega arith)) at (R-mono (d *ℤ u) (d *ℤ pos 86400000) 86400000 (omega arith) (mul-mono d u (pos 86400000) nd hi)) in
+    (by≤ ⟨ v0 ⟩ (⟨ v0 ⟩ ⊕ ⟨ r ⟩) (omega zarith), by≤ (⟨ v0 ⟩ ⊕ ⟨ r ⟩) ⟨ v1 ⟩ (omega (zarith, of≤ ⟨ r ⟩ (⟨ v1 ⟩ ⊝ ⟨ v0 ⟩) m)))
+
+-- the mirrored law, line v0 v1 u ≡ line v1 v0 (86400000 - u), fails at a tie: halves go away from zero on both ways
+tie-up : line (pos 0) (pos 1) (pos 43200000) ≡ pos 1
+tie-up = refl
+
+tie-down : line (pos 1) (pos 0) (pos 43200000) ≡ pos 0
+tie-down = refl
