@@ -1,5 +1,8 @@
+pub mod Bias
+pub mod Far
 pub mod Linear
-pub mod Quote
 pub mod Machine
-pub mod Rounding
 pub mod Products
+pub mod Quote
+pub mod Rounding
+pub mod Tests

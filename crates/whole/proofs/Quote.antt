@@ -8,7 +8,7 @@ use Prim.Native.Nat.{_-_, _^_}
 use mir.Syntax.{w64}
 use mir.Val.{SFits}
 use Rattle.whole.specs.Whole.{P, N}
-use Rattle.whole.proofs.Linear.{least, fits!, add-law, P-neg, N-neg, mul-P, mul-N, eq⇒, ⇒eq, le⇒, ⇒le}
+use Rattle.whole.proofs.Linear.{least, fits!, add-law, P-neg, N-neg, mul-P, mul-N, eq⇒, ⇒eq, le⇒, ⇒le, lt⇒, ⇒lt}
 
 infixl 6 _⊕_ _⊝_
 infixl 7 _⊗_
@@ -63,12 +63,18 @@ by≡ a b h = ⇒eq (ev a) (ev b) (omega (arith, bal a, bal b))
 pub by≤ : (a b : E) → up a + dn b ≤ up b + dn a → ev a ≤ℤ ev b
 by≤ a b h = ⇒le (ev a) (ev b) (omega (arith, bal a, bal b))
 
+pub by< : (a b : E) → up a + dn b < up b + dn a → ev a <ℤ ev b
+by< a b h = ⇒lt (ev a) (ev b) (omega (arith, bal a, bal b))
+
 -- hypotheses
 pub of≡ : (a b : E) → ev a ≡ ev b → up a + dn b ≡ up b + dn a
 of≡ a b h = omega (arith, bal a, bal b, eq⇒ (ev a) (ev b) h)
 
 pub of≤ : (a b : E) → ev a ≤ℤ ev b → up a + dn b ≤ up b + dn a
 of≤ a b h = omega (arith, bal a, bal b, le⇒ (ev a) (ev b) h)
+
+pub of< : (a b : E) → ev a <ℤ ev b → up a + dn b < up b + dn a
+of< a b h = omega (arith, bal a, bal b, lt⇒ (ev a) (ev b) h)
 
 -- it fits an i64
 pub fit : (a : E) → (up a - dn a) + (dn a - up a - 1) < 2 ^ 63 → SFits w64 (ev a)

@@ -4,14 +4,15 @@ use Prim.Native.Nat.{ℕ, zero, suc, _+_, _*_, _/_, _≤_, _<_}
 use Prim.Native.Nat.{_-_, _%_}
 use native.Mathlib.Nat.{div-mul-le-self, le-div-iff-mul-le, mul-div-le, lt-div-mul-add, div-eq-of-lt-le, mod-lt, div-add-mod', div-lt-iff-lt-mul, mul-le-mul-left, le-of-suc-le-suc, mul-pos, zero-div}
 use native.Mathlib.Omega.{arith}
-use native.Mathlib.Nat.{add-zero, zero-add}
+use native.Mathlib.Nat.{add-zero, zero-add, div-div-eq-div-mul, div-le-of-le-mul, mod-self, mod-eq-of-lt, sub-zero}
 use lib.Dec.{leb·suc-zero}
-use lib.Signed.{ltZ, _≤ℤ_}
+use lib.Signed.{ltZ, _≤ℤ_, _<ℤ_}
 use lib.IntN.{ℤ, pos, negsuc, negℤ, negℤ-negℤ, _+ℤ_, _-ℤ_, _*ℤ_}
+use Rattle.whole.specs.Steps.{halfFor}
 use Rattle.whole.specs.Whole.{near, R, signOf, floorZ, modZ, line}
 use Rattle.whole.specs.Whole.{P, N, ∣_∣}
-use Rattle.whole.proofs.Linear.{P-neg, N-neg, zarith, mul-nonneg, mul-mono}
-use Rattle.whole.proofs.Quote.{⟨_⟩, #, _⊕_, _⊝_, _⊗_, ⊖, bal, by≡, by≤, of≤}
+use Rattle.whole.proofs.Linear.{add-law, P-neg, N-neg, zarith, mul-nonneg, mul-mono}
+use Rattle.whole.proofs.Quote.{⟨_⟩, #, _⊕_, _⊝_, _⊗_, ⊖, bal, by≡, by≤, by<, of≡, of≤, of<}
 
 pub near-le : (a b : ℕ) → 0 < b → near a b ≤ a
 near-le a b h =
@@ -29,7 +30,12 @@ pub R-abs : (z : ℤ) (b : ℕ) → 0 < b → ∣ R z b ∣ ≤ ∣ z ∣
 R-abs (pos n) b h = omega (arith, near-le n b h)
 R-abs (negsuc n) b h = omega (arith, near-le (suc n) b h, P-neg (pos (near (suc n) b)), N-neg (pos (near (suc n) b)))
 
--- by the sign and the magnitude, as code that splits the sign off first has it
+-- a number by its sign and its size
+pub sign-split : (z : ℤ) → signOf (ltZ z (pos 0)) ∣ z ∣ ≡ z
+sign-split (pos n) = simp (leb·suc-zero, add-zero)
+sign-split (negsuc n) = simp zero-add
+
+-- R by the sign and the size, as code that splits the sign off first has it
 pub R-split : (z : ℤ) (b : ℕ) → signOf (ltZ z (pos 0)) (near ∣ z ∣ b) ≡ R z b
 R-split (pos n) b = simp (leb·suc-zero, add-zero)
 R-split (negsuc n) b = simp zero-add
@@ -38,7 +44,7 @@ R-split (negsuc n) b = simp zero-add
 pub near-lo : (a b : ℕ) → 2 * (near a b * b) ≤ 2 * a + b
 near-lo a b = omega (arith, mul-div-le (2 * a + b) (2 * b))
 
-pub near-hi : (a b : ℕ) → 0 < b → 2 * a ≤ 2 * (near a b * b) + b
+pub near-hi : (a b : ℕ) → 0 < b → 2 * a < 2 * (near a b * b) + b
 near-hi a b h = omega (arith, lt-div-mul-add {a = 2 * a + b} {b = 2 * b} (mul-pos {m = 2} {n = b} (omega arith) h))
 
 -- |x| from both sides, where x is u less d
@@ -105,3 +111,118 @@ tie-up = refl
 
 tie-down : line (pos 1) (pos 0) (pos 43200000) ≡ pos 0
 tie-down = refl
+
+-- ---- the code's forms of R
+-- (a + b / 2) / b is the nearest too, for odd b as for even.
+pub near-half : (a b : ℕ) → (a + b / 2) / b ≡ near a b
+near-half a b =
+    let e : a + b / 2 ≡ (2 * a + b) / 2 = omega arith in
+    ap (λ (n : ℕ). n / b) e ∙ div-div-eq-div-mul (2 * a + b) 2 b
+
+-- the floor is the one whole number q with q·b ≤ z < q·b + b
+pub floor-unique : (z q : ℤ) (b : ℕ) → 0 < b → (q *ℤ pos b) ≤ℤ z → z <ℤ (q *ℤ pos b +ℤ pos b) → floorZ z b ≡ q
+floor-unique (pos a) (pos q) b h l u =
+    ap pos (div-eq-of-lt-le b (omega (zarith, bal (# q ⊗ # b))) (omega (zarith, bal (# q ⊗ # b ⊕ # b))))
+floor-unique (pos a) (negsuc q) b h l u = absurd (omega (zarith, bal (⟨ negsuc q ⟩ ⊗ # b ⊕ # b)))
+floor-unique (negsuc a) (pos q) b h l u = absurd (omega (zarith, bal (# q ⊗ # b)))
+floor-unique (negsuc a) (negsuc q) b h l u =
+    ap negsuc
+    (div-eq-of-lt-le b
+    (omega (zarith, bal (⟨ negsuc q ⟩ ⊗ # b ⊕ # b)))
+    (omega (zarith, bal (⟨ negsuc q ⟩ ⊗ # b))))
+
+-- and it is such a number
+pub floor-lo : (z : ℤ) (b : ℕ) → 0 < b → (floorZ z b *ℤ pos b) ≤ℤ z
+floor-lo z b h =
+    let e = floor-mod z b h in
+    omega (zarith, add-law (floorZ z b *ℤ pos b) (pos (modZ z b)))
+
+pub floor-hi : (z : ℤ) (b : ℕ) → 0 < b → z <ℤ (floorZ z b *ℤ pos b +ℤ pos b)
+floor-hi z b h =
+    let e = floor-mod z b h in
+    let q = floorZ z b *ℤ pos b in
+    omega (zarith, add-law q (pos (modZ z b)), add-law q (pos b), mod-below z b h)
+
+-- what is left of z is the one m below b with z = q·b + m
+pub mod-unique : (z q : ℤ) (b m : ℕ) → m < b → q *ℤ pos b +ℤ pos m ≡ z → modZ z b ≡ m
+mod-unique z q b m h e =
+    let p : 0 < b = omega arith in
+    let f = of≡ (⟨ q ⟩ ⊗ # b ⊕ # m) ⟨ z ⟩ e in
+    let g : floorZ z b ≡ q =
+    floor-unique z q b p (by≤ (⟨ q ⟩ ⊗ # b) ⟨ z ⟩ (omega arith)) (by< ⟨ z ⟩ (⟨ q ⟩ ⊗ # b ⊕ # b) (omega arith)) in
+    let i = ap (λ (x : ℤ). x *ℤ pos b +ℤ pos (modZ z b)) (sym g) ∙ floor-mod z b p in
+    omega (arith, of≡ (⟨ q ⟩ ⊗ # b ⊕ # (modZ z b)) ⟨ z ⟩ i)
+
+-- of a number with its sign turned
+neg-by : (k q r b : ℕ) → r < b → q * b + r ≡ k → modZ (negℤ (pos k)) b ≡ (b - r) % b
+neg-by k q zero b h e = mod-unique (negℤ (pos k)) (negℤ (pos q)) b 0 h (by≡ (⊖ (# q) ⊗ # b ⊕ # 0) (⊖ (# k)) (omega arith)) ∙ sym (ap (λ (n : ℕ). n % b) (sub-zero b) ∙ mod-self b)
+neg-by k q (suc r) b h e =
+    mod-unique (negℤ (pos k)) (negℤ (pos (q + 1))) b (b - suc r) (omega arith) (by≡ (⊖ (# (q + 1)) ⊗ # b ⊕ # (b - suc r)) (⊖ (# k)) (omega arith))
+    ∙ sym (mod-eq-of-lt {n = b - suc r} {m = b} (omega arith))
+
+pub mod-neg : (k b : ℕ) → 0 < b → modZ (negℤ (pos k)) b ≡ (b - k % b) % b
+mod-neg k b h = neg-by k (k / b) (k % b) b (mod-lt k h) (div-add-mod' k b)
+
+-- of a sum
+pub mod-add : (c : ℕ) (z : ℤ) (b : ℕ) → 0 < b → modZ (pos c +ℤ z) b ≡ (c + modZ z b) % b
+mod-add c z b h =
+    let m = c + modZ z b in
+    let e = of≡ (⟨ floorZ z b ⟩ ⊗ # b ⊕ # (modZ z b)) ⟨ z ⟩ (floor-mod z b h) in
+    mod-unique (pos c +ℤ z) (pos (m / b) +ℤ floorZ z b) b (m % b) (mod-lt m h)
+    (by≡ ((# (m / b) ⊕ ⟨ floorZ z b ⟩) ⊗ # b ⊕ # (m % b)) (# c ⊕ ⟨ z ⟩) (omega (arith, div-add-mod' m b)))
+
+-- in two steps, the low part first: floor((2^15·h + l) / 2^30)
+pub floor-steps : (h l : ℤ) → floorZ (pos 32768 *ℤ h +ℤ l) 1073741824 ≡ floorZ (h +ℤ floorZ l 32768) 32768
+floor-steps h l =
+    let f = floorZ l 32768 in
+    let g = floorZ (h +ℤ f) 32768 in
+    let a = floor-lo l 32768 (omega arith) in
+    let b = floor-hi l 32768 (omega arith) in
+    let c = floor-lo (h +ℤ f) 32768 (omega arith) in
+    let d = floor-hi (h +ℤ f) 32768 (omega arith) in
+    floor-unique (pos 32768 *ℤ h +ℤ l) g 1073741824 (omega arith)
+    (by≤ (⟨ g ⟩ ⊗ # 1073741824) (# 32768 ⊗ ⟨ h ⟩ ⊕ ⟨ l ⟩) (omega (zarith, of≤ (⟨ f ⟩ ⊗ # 32768) ⟨ l ⟩ a, of≤ (⟨ g ⟩ ⊗ # 32768) (⟨ h ⟩ ⊕ ⟨ f ⟩) c)))
+    (by< (# 32768 ⊗ ⟨ h ⟩ ⊕ ⟨ l ⟩) (⟨ g ⟩ ⊗ # 1073741824 ⊕ # 1073741824) (omega (zarith, of< ⟨ l ⟩ (⟨ f ⟩ ⊗ # 32768 ⊕ # 32768) b, of< (⟨ h ⟩ ⊕ ⟨ f ⟩) (⟨ g ⟩ ⊗ # 32768 ⊕ # 32768) d)))
+
+-- a bound on the floor, and on what is left
+pub floor-abs : (z : ℤ) (b k : ℕ) → 0 < b → ∣ z ∣ ≤ k * b → ∣ floorZ z b ∣ ≤ k
+floor-abs (pos a) b k h l = omega (arith, div-le-of-le-mul b {m = a} {n = k} (omega arith))
+floor-abs (negsuc a) b k h l = omega (arith, div-lt-iff-lt-mul {x = a} {y = k} h .1 (omega arith))
+
+-- R by a floor, for a divisor of 2^30
+pub R-floor : (z : ℤ) → floorZ (z +ℤ halfFor z) 1073741824 ≡ R z 1073741824
+R-floor (pos a) = ap pos (near-half a 1073741824)
+R-floor (negsuc a) =
+    let n = near (suc a) 1073741824 in
+    floor-unique (negsuc a +ℤ pos 536870911) (negℤ (pos n)) 1073741824 (omega arith)
+    (by≤ (⊖ (# n) ⊗ # 1073741824) (⟨ negsuc a ⟩ ⊕ # 536870911) (omega (arith, near-hi (suc a) 1073741824 (omega arith))))
+    (by< (⟨ negsuc a ⟩ ⊕ # 536870911) (⊖ (# n) ⊗ # 1073741824 ⊕ # 1073741824) (omega (arith, near-lo (suc a) 1073741824)))
+
+-- the sign of 2^15·h + l is that of its floor by 2^15
+half-by : (a b : ℤ) → (a *ℤ pos 32768) ≤ℤ b → b <ℤ (a *ℤ pos 32768 +ℤ pos 32768) → halfFor a ≡ halfFor b
+half-by (pos m) (pos n) l u = refl
+half-by (pos m) (negsuc n) l u = absurd (omega (zarith, bal (# m ⊗ # 32768)))
+half-by (negsuc m) (pos n) l u = absurd (omega (zarith, bal (⟨ negsuc m ⟩ ⊗ # 32768 ⊕ # 32768)))
+half-by (negsuc m) (negsuc n) l u = refl
+
+pub half-same : (h l : ℤ) → halfFor (h +ℤ floorZ l 32768) ≡ halfFor (pos 32768 *ℤ h +ℤ l)
+half-same h l =
+    let f = floorZ l 32768 in
+    let a = floor-lo l 32768 (omega arith) in
+    let b = floor-hi l 32768 (omega arith) in
+    half-by (h +ℤ f) (pos 32768 *ℤ h +ℤ l)
+    (by≤ ((⟨ h ⟩ ⊕ ⟨ f ⟩) ⊗ # 32768) (# 32768 ⊗ ⟨ h ⟩ ⊕ ⟨ l ⟩) (omega (arith, of≤ (⟨ f ⟩ ⊗ # 32768) ⟨ l ⟩ a)))
+    (by< (# 32768 ⊗ ⟨ h ⟩ ⊕ ⟨ l ⟩) ((⟨ h ⟩ ⊕ ⟨ f ⟩) ⊗ # 32768 ⊕ # 32768) (omega (arith, of< ⟨ l ⟩ (⟨ f ⟩ ⊗ # 32768 ⊕ # 32768) b)))
+
+pub half-abs : (z : ℤ) → ∣ halfFor z ∣ ≤ 536870912
+half-abs (pos n) = omega arith
+half-abs (negsuc n) = omega arith
+
+-- the two steps of the code: the half goes to the low part
+pub R-steps : (h l : ℤ) → floorZ (h +ℤ floorZ (l +ℤ halfFor (h +ℤ floorZ l 32768)) 32768) 32768 ≡ R (pos 32768 *ℤ h +ℤ l) 1073741824
+R-steps h l =
+    let z = pos 32768 *ℤ h +ℤ l in
+    ap (λ (x : ℤ). floorZ (h +ℤ floorZ (l +ℤ x) 32768) 32768) (half-same h l)
+    ∙ sym (floor-steps h (l +ℤ halfFor z))
+    ∙ ap (λ (x : ℤ). floorZ x 1073741824) (by≡ (# 32768 ⊗ ⟨ h ⟩ ⊕ (⟨ l ⟩ ⊕ ⟨ halfFor z ⟩)) (# 32768 ⊗ ⟨ h ⟩ ⊕ ⟨ l ⟩ ⊕ ⟨ halfFor z ⟩) (omega arith))
+    ∙ R-floor z

@@ -1,0 +1,17 @@
+-- What a test that came out so shows, as a branch leaves it. Assumes nothing.
+use mathlib.Core.Path.{_≡_, refl, sym, _∙_}
+use mathlib.Core.Bool.{Bool, true, false, not, _&&_}
+use mathlib.Core.Logic.{_⊎_, inl, inr}
+use borrow.Author.Tests.{not-true, not-false}
+
+-- `if !f(..)`, taken and left, where f promises its result as a test
+pub failed : {r s : Bool} → r ≡ s → not r ≡ true → s ≡ false
+failed {r} e h = sym e ∙ not-true r h
+
+pub passed : {r s : Bool} → r ≡ s → not r ≡ false → s ≡ true
+passed {r} e h = sym e ∙ not-false r h
+
+-- of two tests joined one failed; Linear's `and-true` is the other half
+pub and-false : (s t : Bool) → (s && t) ≡ false → (s ≡ false) ⊎ (t ≡ false)
+and-false true t e = inr e
+and-false false t e = inl refl

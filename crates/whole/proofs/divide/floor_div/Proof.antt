@@ -1,0 +1,70 @@
+-- `whole::divide::floor_div` meets its contract.
+use mathlib.Core.Path.{_≡_, refl, ap, _∙_}
+use mathlib.Core.Bool.{true, false}
+use Prim.Native.Nat.{ℕ, _/_}
+use lib.IntN.{ℤ, pos, negsuc, _-ℤ_}
+use lib.Signed.{_≤ℤ_, leZ, quotZ}
+use mir.Syntax.{w64}
+use mir.Val.{SFits}
+use Rattle.whole.specs.Whole.{P, floorZ}
+use Rattle.whole.proofs.Linear.{zarith, known, sub-lawℤ, leZ-false, no-ft, back, quot-fits, div-ok}
+use Rattle.whole.proofs.divide.floor_div.Statement.{statement}
+use Rattle.whole.proofs.divide.floor_div.Tie as tie
+
+-- -1 - x is the number under negsuc, both ways
+below : {x : ℤ} → SFits w64 x → SFits w64 (negsuc 0 -ℤ x)
+below {x} f = omega (zarith, known f, sub-lawℤ (negsuc 0) x)
+
+flip : (n : ℕ) → negsuc 0 -ℤ pos n ≡ negsuc n
+flip n = omega (zarith, sub-lawℤ (negsuc 0) (pos n))
+
+flop : (n : ℕ) → negsuc 0 -ℤ negsuc n ≡ pos n
+flop n = omega (zarith, sub-lawℤ (negsuc 0) (negsuc n))
+
+up : (x b : ℤ) → pos 1 ≤ℤ b → leZ (pos 0) x ≡ true → quotZ x b ≡ floorZ x (P b)
+up (pos a) (pos b) h t = refl
+up (pos a) (negsuc b) h t = absurd (h .le)
+up (negsuc a) b h t = no-ft t
+
+down : (x b : ℤ) → pos 1 ≤ℤ b → leZ (pos 0) x ≡ false → negsuc 0 -ℤ quotZ (negsuc 0 -ℤ x) b ≡ floorZ x (P b)
+down (pos a) b h t = absurd (omega (zarith, leZ-false (pos 0) (pos a) t))
+down (negsuc a) (pos b) h t = ap (λ (z : ℤ). negsuc 0 -ℤ quotZ z (pos b)) (flop a) ∙ flip (a / b)
+down (negsuc a) (negsuc b) h t = absurd (h .le)
+
+module _ (s : tie.Start) where
+  f : SFits w64 (negsuc 0 -ℤ s .args .x)
+  f = below (s .fits .x)
+
+  g : SFits w64 (quotZ (negsuc 0 -ℤ s .args .x) (s .args .b))
+  g = quot-fits (negsuc 0 -ℤ s .args .x) (s .args .b) (s .pre) f
+
+div-result : tie.Need-div-result
+div-result c =
+    let s = c .before in simp (back, s .fits .x, s .fits .b) (div-ok (s .args .x) (s .args .b) (s .pre) (s .fits .x))
+
+sub-result : tie.Need-sub-result
+sub-result c = simp (back, c .before .fits .x) (f (c .before))
+
+div-result-2 : tie.Need-div-result-2
+div-result-2 c =
+    let s = c .before in
+    simp (back, s .fits .x, s .fits .b, f s) (div-ok (negsuc 0 -ℤ s .args .x) (s .args .b) (s .pre) (f s))
+
+sub-result-2 : tie.Need-sub-result-2
+sub-result-2 c = let s = c .before in simp (back, s .fits .x, s .fits .b, f s, g s) (below (g s))
+
+returns : tie.Need-returns
+returns c =
+    let s = c .before in
+    simp (back, s .fits .x, s .fits .b, quot-fits (s .args .x) (s .args .b) (s .pre) (s .fits .x))
+    (up (s .args .x) (s .args .b) (s .pre) (simp (back, s .fits .x) at (c .if1 .taken)))
+
+returns-2 : tie.Need-returns-2
+returns-2 c =
+    let s = c .before in
+    simp (back, s .fits .x, s .fits .b, f s, g s, below (g s))
+    (down (s .args .x) (s .args .b) (s .pre) (simp (back, s .fits .x) at (c .if1 .left)))
+
+pub floor-div-spec : {M : Type 1} → statement M
+floor-div-spec =
+    tie.close (tie.spec div-result sub-result div-result-2 sub-result-2 returns returns-2)

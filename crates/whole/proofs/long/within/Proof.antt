@@ -1,0 +1,87 @@
+-- `whole::long::within` meets its contract.
+use mathlib.Core.Path.{_≡_, sym, ap, _∙_}
+use mathlib.Core.Bool.{true, false, _&&_}
+use Prim.Native.Nat.{ℕ, _^_, _≤_}
+use borrow.Author.Needs.{needs}
+use borrow.Author.Tests.{lt-leb}
+use native.Mathlib.Nat.{lt-of-le-of-lt}
+use native.Mathlib.Omega.{arith}
+use lib.Dec.{lit<}
+use lib.IntN.{ℤ, pos, negsuc, _+ℤ_, _-ℤ_, _*ℤ_}
+use lib.Signed.{leZ}
+use mir.Syntax.{w64}
+use mir.Val.{SFits}
+use Rattle.whole.specs.Whole.{∣_∣, floorZ}
+use Rattle.whole.proofs.Far.{near, far}
+use Rattle.whole.proofs.Linear.{abs-fits, back}
+use Rattle.whole.proofs.Machine.{M, var, _⊠_, ok, is}
+use Rattle.whole.proofs.Tests.{passed, failed}
+use Rattle.whole.proofs.Rounding.{floor-abs}
+use Rattle.whole.proofs.long.within.Statement.{statement}
+use Rattle.whole.proofs.long.within.Tie as tie
+
+floor-of-r : (c : tie.After-floor-div) → c .floor-div .result ≡ floorZ (c .before .args .r) 1024
+floor-of-r c = rw (back (c .before .fits .r)) at (c .floor-div .ensures)
+
+abbrev high : tie.After-floor-div → M
+high c =
+    let s = c .before in
+    var (c .floor-div .result) 19531250000000 (rw (floor-of-r c) (floor-abs (s .args .r) 1024 19531250000000 (omega arith) (omega arith)))
+    ⊠ var (s .args .j) 1023 (s .pre .0 .2)
+
+-- what the range test showed, of the number meant
+shown : (c : tie.After-in-range) → c .in-range .result ≡ (leZ (negsuc 35184372088831) (floorZ (c .before .before .args .r) 1024 *ℤ c .before .before .args .j) && leZ (floorZ (c .before .before .args .r) 1024 *ℤ c .before .before .args .j) (pos 35184372088832))
+shown c =
+    let e = simp (is (high (c .before)) tt) at (c .in-range .ensures) in
+    e ∙ simp (floor-of-r (c .before))
+
+module _ (c : tie.Else1) where
+  abbrev start : tie.Start
+  start = c .before .before .before
+
+  small : ∣ start .args .r *ℤ start .args .j ∣ ≤ 2 ^ 56
+  small = near (start .args .r) (start .args .j) (start .pre .0 .2) (passed (shown (c .before)) (c .if1 .left))
+
+  fits : SFits w64 (start .args .r *ℤ start .args .j)
+  fits = abs-fits (lt-of-le-of-lt small (lit< tt))
+
+floor-div-requires : tie.Need-floor-div-requires
+floor-div-requires c κs = search needs
+
+mul-high : tie.Need-mul-high
+mul-high c = ok (high c) tt
+
+in-range-requires : tie.Need-in-range-requires
+in-range-requires c κs = search needs
+
+returns : tie.Need-returns
+returns c =
+    let s = c .before .before .before in
+    sym (lt-leb _ _ (far (s .args .r) (s .args .j) (s .pre .0 .2) (s .args .a) (s .args .s) (s .args .k) (s .pre .0 .0) (s .pre .1 .0) (s .pre .1 .1) (failed (shown (c .before)) (c .if1 .taken))))
+
+mul-within-by : tie.Need-mul-within-by
+mul-within-by c = simp (back (start c .fits .r), back (start c .fits .j)) (fits c)
+
+within-by-requires : tie.Need-within-by-requires
+within-by-requires c κs =
+    let s = start c in
+    simp (back (s .fits .r), back (s .fits .j), back (s .fits .a), back (s .fits .s), back (fits c))
+    (s .pre .0 .0, small c, s .pre .1 .0)
+
+returns-2 : tie.Need-returns-2
+returns-2 c =
+    let k = c .before in
+    let s = start k in
+    simp (back (s .fits .r), back (s .fits .j), back (s .fits .a), back (s .fits .s), back (s .fits .k), back (fits k)) at (c .within-by .ensures)
+
+pub within-spec : {M : Type 1} → statement M
+within-spec =
+    tie.close
+    (tie.spec
+    floor-div-requires
+    mul-high
+    in-range-requires
+    returns
+    mul-within-by
+    within-by-requires
+    returns-2)
