@@ -1,0 +1,4 @@
+pub mod Laws
+pub mod Parts
+pub mod Horner
+pub mod Polynomial
