@@ -1,30 +1,48 @@
--- The Taylor sums of the sine as exact fractions, and what it is for a scaled sine to lie near one.
+-- Document 01, *Sine*: "S(r) lies within 4 of 2^30 times the Taylor sum of degree 15 at (r/2^30)·(half of 3.14159265358979323846)", in exact
+-- fractions. The sine's Taylor sum is x - x^3/3! + x^5/5! - .., up to the degree named.
 use Prim.Native.Nat.{ℕ, zero, suc, _+_, _*_, _^_, _≤_}
 use mathlib.Core.Bool.{Bool, true, false, not}
-use lib.IntN.{ℤ, pos, negsuc, negℤ, _+ℤ_, _-ℤ_, _*ℤ_}
+use lib.IntN.{ℤ, pos, _+ℤ_, _-ℤ_, _*ℤ_}
 use Rattle.whole.specs.Whole.{∣_∣, signOf}
+use Rattle.sine.specs.Sine.{S}
 
--- x = r / 2^30 * (3.14159265358979323846 / 2) = argN r / argD
-abbrev pub argN : ℕ → ℕ
-argN r = r * 314159265358979323846
+-- a whole number over a natural
+pub record Fraction : Type 0 where
+  pub top : ℤ
+  pub under : ℕ
 
-abbrev pub argD : ℕ
-argD = 2 ^ 30 * (2 * 10 ^ 20)
+-- a/b + c/d = (a·d + c·b) / (b·d)
+abbrev pub plus : Fraction → Fraction → Fraction
+plus f g = record { top = f .top *ℤ pos (g .under) +ℤ g .top *ℤ pos (f .under); under = f .under * g .under }
+
+-- (r / 2^30)·(3.14159265358979323846 / 2) is `argTop r` over `argUnder`
+abbrev pub argTop : ℕ → ℕ
+argTop r = r * 314159265358979323846
+
+abbrev pub argUnder : ℕ
+argUnder = 2 ^ 30 * (2 * 10 ^ 20)
+
+abbrev pub factorial : ℕ → ℕ
+factorial zero = 1
+factorial (suc n) = suc n * factorial n
 
 abbrev pub odd? : ℕ → Bool
 odd? zero = false
 odd? (suc n) = not (odd? n)
 
--- the sum of degree 2 n + 1 at u / d, x - x^3 / 3! + .. ± x^(2 n + 1) / (2 n + 1)!, has the numerator `taylor d u n` over `over d n`:
--- each term, ± u^(2 n + 1) over (2 n + 1)! d^(2 n + 1), is added to the sum before, brought over the same denominator
-abbrev pub over : ℕ → ℕ → ℕ
-over d zero = d
-over d (suc n) = over d n * (d * d * ((2 * n + 2) * (2 * n + 3)))
+-- the term of degree 2 i + 1 at x = u / d, which is x^(2 i + 1) / (2 i + 1)!, with a minus where i is odd
+abbrev pub term : ℕ → ℕ → ℕ → Fraction
+term u d i = record { top = signOf (odd? i) (u ^ (2 * i + 1)); under = d ^ (2 * i + 1) * factorial (2 * i + 1) }
 
-abbrev pub taylor : ℕ → ℕ → ℕ → ℤ
-taylor d u zero = pos u
-taylor d u (suc n) = taylor d u n *ℤ pos (d * d * ((2 * n + 2) * (2 * n + 3))) +ℤ signOf (odd? (suc n)) (u ^ (2 * n + 3))
+-- the sum of the terms of degree 1, 3, .., 2 n + 1
+abbrev pub taylor : ℕ → ℕ → ℕ → Fraction
+taylor u d zero = term u d 0
+taylor u d (suc n) = plus (taylor u d n) (term u d (suc n))
 
--- s lies within e of 2^30 times the Taylor sum of degree 2 n + 1 at the argument of r
-unfoldable pub Within : ℕ → ℕ → ℕ → ℕ → Type 0
-Within e n r s = ∣ pos (s * over argD n) -ℤ pos 1073741824 *ℤ taylor argD (argN r) n ∣ ≤ e * over argD n
+-- s lies within e of 2^30·a/b: |s·b - 2^30·a| ≤ e·b
+unfoldable pub Within : ℕ → Fraction → ℕ → Type 0
+Within e f s = ∣ pos (s * f .under) -ℤ pos (2 ^ 30) *ℤ f .top ∣ ≤ e * f .under
+
+-- the law of S, for r from 0 to 2^30; degree 15 is 2·7 + 1
+abbrev pub NearTaylor : ℕ → Type 0
+NearTaylor r = Within 4 (taylor (argTop r) argUnder 7) (S r)
