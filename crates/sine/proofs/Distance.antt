@@ -9,8 +9,8 @@ use lib.Dec.{T, leb, lit≤, lit<}
 use lib.IntN.{ℤ, pos, negsuc, negℤ, _+ℤ_, _-ℤ_, _*ℤ_}
 use Rattle.whole.specs.Whole.{P, N, ∣_∣, signOf}
 use Rattle.whole.proofs.Quote.{#, _⊕_, _⊝_, _⊗_, ⊖, bal}
-use Rattle.sine.specs.Sine.{yOf, zOf, sBy, S}
-use Rattle.sine.specs.Taylor.{argTop, argUnder, odd?, taylor, Within, NearTaylor}
+use Rattle.sine.specs.Sine.{yOf, zOf, sBy, firstDivisor, divisors, S}
+use Rattle.sine.specs.Taylor.{argTop, argUnder, odd?, taylor, Within, farthest, NearTaylor}
 use Rattle.sine.proofs.Polynomial.{peval, pup}
 use Rattle.sine.proofs.Horner.{hs, den, num, err, three, near, onto, scheme-is}
 use Rattle.sine.proofs.Argument.{E, most, y-lo, y-hi, y-five, u-max, u-five, arg, floor-lo, floor-hi}
@@ -113,9 +113,9 @@ module _ (first : ℕ) (others : List ℕ) (n e κ : ℕ) (plan : Plan first oth
   pub distance : Within e (taylor u argUnder (suc n)) (sBy first others r)
   distance = within e u argUnder (suc n) (sBy first others r) reduced
 
--- ---- six divisors, within 4 of degree 15
-six : Plan 156 (110 ∷ 72 ∷ 42 ∷ 20 ∷ 6 ∷ []) 6 4 725
-six = record {
+-- ---- the six divisors of document 01
+plan : Plan firstDivisor divisors 6 farthest 725
+plan = record {
   cs = 2 ∷ 12 ∷ 30 ∷ 56 ∷ 90 ∷ 132 ∷ 182 ∷ [];
   c = 196 * vv;
   big = tt;
@@ -131,4 +131,4 @@ six = record {
 
 pub S-near : (r : ℕ) → r ≤ 2 ^ 30 → NearTaylor r
 unfolding S
-S-near r h = distance 156 (110 ∷ 72 ∷ 42 ∷ 20 ∷ 6 ∷ []) 6 4 725 six r h
+S-near r h = distance firstDivisor divisors 6 farthest 725 plan r h

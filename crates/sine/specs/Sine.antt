@@ -29,9 +29,15 @@ stepsOf z h (k ∷ ks) = stepsOf z (stepOf z h k) ks
 unfoldable pub sBy : ℕ → List ℕ → ℕ → ℕ
 sBy k ks r = min (yOf r * stepsOf (zOf (yOf r)) (firstOf (zOf (yOf r)) k) ks / 2 ^ 30) (2 ^ 30)
 
--- "h6 with 156; then h5 to h1 in turn with k = 110, 72, 42, 20, 6"
+-- "h6 = 2^30 - floor(z/156); then h5 to h1 in turn with k = 110, 72, 42, 20, 6"
+abbrev pub firstDivisor : ℕ
+firstDivisor = 156
+
+abbrev pub divisors : List ℕ
+divisors = 110 ∷ 72 ∷ 42 ∷ 20 ∷ 6 ∷ []
+
 unfoldable pub S : ℕ → ℕ
-S r = sBy 156 (110 ∷ 72 ∷ 42 ∷ 20 ∷ 6 ∷ []) r
+S r = sBy firstDivisor divisors r
 
 -- "the sine for q = 0, 1, 2, 3 is S(r), S(2^30 - r), -S(r), -S(2^30 - r)"
 unfoldable pub quarter : ℕ → ℕ → ℤ

@@ -43,6 +43,9 @@ taylor u d (suc n) = plus (taylor u d n) (term u d (suc n))
 unfoldable pub Within : ℕ → Fraction → ℕ → Type 0
 Within e f s = ∣ pos (s * f .under) -ℤ pos (2 ^ 30) *ℤ f .top ∣ ≤ e * f .under
 
--- the law of S, for r from 0 to 2^30; degree 15 is 2·7 + 1
+-- the law of S, for r from 0 to 2^30: within 4 of degree 15, which is 2·7 + 1
+abbrev pub farthest : ℕ
+farthest = 4
+
 abbrev pub NearTaylor : ℕ → Type 0
-NearTaylor r = Within 4 (taylor (argTop r) argUnder 7) (S r)
+NearTaylor r = Within farthest (taylor (argTop r) argUnder 7) (S r)
