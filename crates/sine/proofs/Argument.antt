@@ -1,5 +1,5 @@
 -- y and z beside the exact argument x = u / d, u = argTop r, d = 2^30 E with E = 2·10^20: 2^30 x = u / E. Then the last floor of S. Assumes nothing.
-use Prim.Native.Nat.{ℕ, _+_, _*_, _/_, _^_, _≤_, _<_}
+use Prim.Native.Nat.{ℕ, _+_, _*_, _/_, _^_, _≤_}
 use native.Mathlib.Omega.{arith}
 use native.Mathlib.Nat.{mul-le-mul, mul-le-mul-left, mul-le-mul-right, le-of-mul-le-mul-left, div-mul-le-self, lt-div-mul-add}
 use lib.Dec.{lit≤, lit<}

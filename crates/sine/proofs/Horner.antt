@@ -3,10 +3,10 @@
 -- [2^30 H - a / 1000, 2^30 H + b / 1000]; a step takes (a, b) to about (5 b / 2 k, 1000 + (e + 5 a / 2) / k).
 use mathlib.Core.Path.{_≡_, refl, sym, ap, _∙_}
 use mathlib.Core.Bool.{Bool, true, false, _&&_}
-use mathlib.Core.List.{List, [], _∷_, _++_}
-use Prim.Native.Nat.{ℕ, zero, suc, _+_, _*_, _-_, _/_, _%_, _≤_, _<_, min}
+use mathlib.Core.List.{List, [], _∷_}
+use Prim.Native.Nat.{ℕ, _+_, _*_, _-_, _/_, _≤_, _<_}
 use native.Mathlib.Omega.{arith}
-use native.Mathlib.Nat.{mul-le-mul, mul-le-mul-left, mul-le-mul-right, le-of-mul-le-mul-left, div-mul-le-self, lt-div-mul-add, mul-pos, mul-div-mul-right, div-le-of-le-mul}
+use native.Mathlib.Nat.{mul-le-mul, mul-le-mul-left, mul-le-mul-right, le-of-mul-le-mul-left, div-mul-le-self, lt-div-mul-add, mul-div-mul-right, div-le-of-le-mul}
 use lib.Dec.{T, leb, leb→le}
 use Rattle.sine.specs.Sine.{firstOf, stepOf, stepsOf}
 

@@ -1,10 +1,10 @@
 -- The laws of the sine and the cosine that the crates above cite: one value, size, symmetry, and the small starred sines. Assumes nothing.
 use mathlib.Core.Path.{_≡_, refl, sym, ap, _∙_}
-use mathlib.Core.List.{List, [], _∷_, map}
-use Prim.Native.Nat.{ℕ, zero, suc, _+_, _*_, _-_, _/_, _%_, _^_, _≤_, _<_, min}
+use mathlib.Core.List.{[], _∷_, map}
+use Prim.Native.Nat.{ℕ, zero, suc, _+_, _*_, _-_, _/_, _%_, _^_, _≤_, _<_}
 use native.Mathlib.Omega.{arith}
 use lib.IntN.{ℤ, pos, negsuc, negℤ, negℤ-negℤ}
-use Rattle.whole.specs.Whole.{P, N, ∣_∣}
+use Rattle.whole.specs.Whole.{∣_∣}
 use Rattle.whole.proofs.Linear.{P-neg, N-neg}
 use Rattle.sine.specs.Sine.{stepsOf, sBy, S, quarter, sineOf, cosineOf}
 

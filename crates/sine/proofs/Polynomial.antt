@@ -1,14 +1,14 @@
 -- Polynomials over ℤ as lists of coefficients, the constant's first, and their values. Assumes nothing.
-use mathlib.Core.Path.{_≡_, refl, sym, ap, ap₂, _∙_}
+use mathlib.Core.Path.{_≡_, refl}
 use mathlib.Core.List.{List, [], _∷_, _++_}
-use Prim.Native.Nat.{ℕ, zero, suc, _+_, _*_, _^_, _≤_, _<_}
+use Prim.Native.Nat.{ℕ, _+_, _*_, _≤_}
 use native.Mathlib.Omega.{arith}
-use native.Mathlib.Nat.{mul-le-mul, le-refl, mul-le-mul-right}
-use lib.IntN.{ℤ, pos, negsuc, negℤ, _+ℤ_, _-ℤ_, _*ℤ_}
+use native.Mathlib.Nat.{mul-le-mul-right}
+use lib.IntN.{ℤ, pos, negsuc, negℤ, _+ℤ_, _*ℤ_}
 use lib.Signed.{_≤ℤ_}
-use Rattle.whole.specs.Whole.{P, N}
-use Rattle.whole.proofs.Linear.{zarith, mul-mono, mul-P, mul-N, add-law}
-use Rattle.whole.proofs.Quote.{E, ⟨_⟩, #, _⊕_, _⊝_, _⊗_, ⊖, by≡, by≤, of≤, of≡}
+use Rattle.whole.specs.Whole.{P}
+use Rattle.whole.proofs.Linear.{zarith, mul-mono}
+use Rattle.whole.proofs.Quote.{⟨_⟩, #, _⊕_, _⊗_, ⊖, by≡, by≤}
 
 abbrev pub peval : List ℤ → ℤ → ℤ
 peval [] x = pos 0

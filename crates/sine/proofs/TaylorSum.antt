@@ -1,16 +1,16 @@
 -- The Taylor sum over its least common denominator, as a polynomial in u^2, and Horner's scheme as another: equal lists of coefficients. Assumes nothing.
-use mathlib.Core.Path.{_≡_, refl, sym, ap, _∙_}
-use mathlib.Core.Bool.{Bool, true, false, not}
+use mathlib.Core.Path.{_≡_, refl, ap, _∙_}
+use mathlib.Core.Bool.{Bool, true, false}
 use mathlib.Core.List.{List, [], _∷_, _++_}
-use Prim.Native.Nat.{ℕ, zero, suc, _+_, _*_, _-_, _^_, _≤_, _<_}
+use Prim.Native.Nat.{ℕ, zero, suc, _+_, _*_, _-_, _^_, _≤_}
 use native.Mathlib.Omega.{arith}
 use native.Mathlib.Nat.{mul-le-mul-left, mul-le-mul-right, pow-suc, pow-zero}
 use lib.Dec.{T, leb, leb→le}
-use lib.IntN.{ℤ, pos, negsuc, negℤ, _+ℤ_, _-ℤ_, _*ℤ_}
+use lib.IntN.{ℤ, pos, negsuc, _+ℤ_, _-ℤ_, _*ℤ_}
 use Rattle.whole.specs.Whole.{∣_∣, signOf}
 use Rattle.whole.proofs.Linear.{abs-mul}
 use Rattle.whole.proofs.Quote.{⟨_⟩, #, _⊕_, _⊝_, _⊗_, ⊖, by≡, of≡}
-use Rattle.sine.specs.Taylor.{Fraction, factorial, odd?, term, taylor, Within}
+use Rattle.sine.specs.Taylor.{factorial, odd?, term, taylor, Within}
 use Rattle.sine.proofs.Polynomial.{peval, pscale, pneg, powOf, eval-scale, eval-neg, eval-snoc}
 use Rattle.sine.proofs.Horner.{den, num, three, and-T}
 

@@ -1,7 +1,6 @@
 -- Document 01, 'Earth rotation', *Sine*: S(r), and the sine and cosine of a tick, all scaled by 2^30.
 use Prim.Native.Nat.{ℕ, zero, suc, _+_, _*_, _-_, _/_, _%_, _^_, min}
 use mathlib.Core.List.{List, [], _∷_}
-use mathlib.Core.Bool.{Bool, true, false}
 use lib.IntN.{ℤ, pos, negℤ}
 
 -- "y = floor(r·1,686,629,713 / 2^30)"

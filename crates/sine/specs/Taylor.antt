@@ -1,7 +1,7 @@
 -- Document 01, *Sine*: "S(r) lies within 4 of 2^30 times the Taylor sum of degree 15 at (r/2^30)·(half of 3.14159265358979323846)", in exact
 -- fractions. The sine's Taylor sum is x - x^3/3! + x^5/5! - .., up to the degree named.
 use Prim.Native.Nat.{ℕ, zero, suc, _+_, _*_, _^_, _≤_}
-use mathlib.Core.Bool.{Bool, true, false, not}
+use mathlib.Core.Bool.{Bool, false, not}
 use lib.IntN.{ℤ, pos, _+ℤ_, _-ℤ_, _*ℤ_}
 use Rattle.whole.specs.Whole.{∣_∣, signOf}
 use Rattle.sine.specs.Sine.{S}

@@ -1,7 +1,7 @@
+use whole::sign::with_sign;
 ghost use mathlib.Core.Path.{_≡_};
 ghost use mathlib.Core.Bool.{cond};
 ghost use Prim.Native.Nat.{_+_, _*_, _-_, _/_, _%_, _^_, _≤_, _<_};
-ghost use Rattle.whole.specs.Whole.{signOf};
 ghost use Rattle.sine.specs.Sine.{yOf, zOf, stepOf, S, sineOf, cosineOf};
 
 // The argument of S in radians, scaled by 2^30.
@@ -53,14 +53,6 @@ fn turned(back: bool, r: u64) -> u64
     if back { 1073741824 - r } else { r }
 }
 
-// m, or -m.
-fn signed(negative: bool, m: u64) -> i64
-    requires { ⌜ m ≤ 2 ^ 30 ⌝ }
-    ensures { λ r. ⌜ r ≡ signOf negative m ⌝ }
-{
-    if negative { 0 - (m as i64) } else { m as i64 }
-}
-
 // The sine of a tick, scaled by 2^30.
 pub fn sine(a: u32) -> i64
     ensures { λ r. ⌜ r ≡ sineOf a ⌝ }
@@ -68,7 +60,7 @@ pub fn sine(a: u32) -> i64
     let q = a / 1073741824;
     let r = (a % 1073741824) as u64;
     let t = turned(q % 2 == 1, r);
-    signed(2 <= q, s_of(t))
+    with_sign(2 <= q, s_of(t))
 }
 
 // The cosine of a tick, scaled by 2^30.

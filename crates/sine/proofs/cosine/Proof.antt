@@ -1,6 +1,6 @@
 -- `sine::cosine` meets its contract. Assumes nothing.
 use Rattle.whole.proofs.Linear.{ret}
-use mathlib.Core.Path.{_≡_, refl, sym, ap, _∙_}
+use mathlib.Core.Path.{ap, _∙_}
 use Rattle.sine.specs.Sine.{sineOf, cosineOf}
 use borrow.Author.Needs.{needs}
 use Rattle.sine.proofs.cosine.Statement.{statement}

@@ -1,7 +1,7 @@
 -- `sine::s_of` meets its contract. Assumes nothing.
 use borrow.Author.Needs.{needs}
-use mathlib.Core.Path.{_≡_, _∙_}
-use Prim.Native.Nat.{ℕ, _*_, _/_, _^_, min}
+use mathlib.Core.Path.{_≡_}
+use Prim.Native.Nat.{_*_, _/_, _^_, min}
 use native.Mathlib.Omega.{arith}
 use native.Mathlib.Nat.{mul-le-mul}
 use borrow.Author.Tests.{ltb-true, ltb-false}

@@ -1,5 +1,5 @@
 -- `sine::sine` meets its contract. Assumes nothing.
-use mathlib.Core.Path.{_≡_, refl, sym, ap, _∙_}
+use mathlib.Core.Path.{sym, ap, _∙_}
 use Prim.Native.Nat.{ℕ, _/_, _^_}
 use lib.Dec.{leb}
 use Rattle.whole.proofs.Linear.{ret}
@@ -21,16 +21,16 @@ turned-requires c κs = search needs
 s-of-requires : tie.Need-s-of-requires
 s-of-requires c κs = search needs
 
-signed-requires : tie.Need-signed-requires
-signed-requires c κs = omega (arith, S-most (c .before .turned .result))
+with-sign-requires : tie.Need-with-sign-requires
+with-sign-requires c κs = omega (arith, S-most (c .before .turned .result))
 
 returns : tie.Need-returns
 returns c =
     let a = c .before .before .before .args .a in
-    ret (c .signed .result) (c .signed .ok)
-    ∙ c .signed .ensures
+    ret (c .with-sign .result) (c .with-sign .ok)
+    ∙ c .with-sign .ensures
     ∙ ap (λ (m : ℕ). signOf (leb 2 (a / 2 ^ 30)) m) (c .before .s-of .ensures ∙ ap S (c .before .before .turned .ensures .0))
     ∙ sym (quarter-is a (omega arith))
 
 pub sine-spec : {M : Type 1} → statement M
-sine-spec = tie.close (tie.spec cast-r turned-requires s-of-requires signed-requires returns)
+sine-spec = tie.close (tie.spec cast-r turned-requires s-of-requires with-sign-requires returns)

@@ -1,5 +1,5 @@
 -- `sine::turned` meets its contract. Assumes nothing.
-use mathlib.Core.Path.{_≡_, refl}
+use mathlib.Core.Path.{refl}
 use native.Mathlib.Omega.{arith}
 use borrow.Author.Needs.{needs}
 use Rattle.sine.proofs.turned.Statement.{statement}

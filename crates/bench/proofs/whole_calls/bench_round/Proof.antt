@@ -1,6 +1,6 @@
 -- `bench::whole_calls::bench_round` meets its contract, which is that of the function that it hands on. Assumes nothing.
 use borrow.Author.Needs.{needs}
-use mathlib.Core.Path.{_≡_, _∙_}
+use mathlib.Core.Path.{_∙_}
 use Rattle.whole.proofs.Linear.{back, ret}
 use Rattle.bench.proofs.whole_calls.bench_round.Statement.{statement}
 use Rattle.bench.proofs.whole_calls.bench_round.Tie as tie
