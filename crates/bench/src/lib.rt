@@ -1,0 +1,3 @@
+// Thin exports of functions that no C caller has otherwise, so that bench/ can count their instructions.
+mod sine_calls;
+mod whole_calls;
