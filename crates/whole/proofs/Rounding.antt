@@ -6,12 +6,13 @@ use native.Mathlib.Nat.{div-mul-le-self, le-div-iff-mul-le, mul-div-le, lt-div-m
 use native.Mathlib.Omega.{arith}
 use native.Mathlib.Nat.{add-zero, zero-add, div-div-eq-div-mul, div-le-of-le-mul, mod-self, mod-eq-of-lt, sub-zero}
 use lib.Dec.{leb·suc-zero}
-use lib.Signed.{ltZ, _≤ℤ_, _<ℤ_}
+use mathlib.Core.Bool.{Bool, true, false}
+use lib.Signed.{leZ, ltZ, _≤ℤ_, _<ℤ_}
 use lib.IntN.{ℤ, pos, negsuc, negℤ, negℤ-negℤ, _+ℤ_, _-ℤ_, _*ℤ_}
 use Rattle.whole.specs.Steps.{halfFor}
 use Rattle.whole.specs.Whole.{near, R, signOf, floorZ, modZ, line}
 use Rattle.whole.specs.Whole.{P, N, ∣_∣}
-use Rattle.whole.proofs.Linear.{add-law, P-neg, N-neg, zarith, mul-nonneg, mul-mono}
+use Rattle.whole.proofs.Linear.{add-law, P-neg, N-neg, zarith, mul-nonneg, mul-mono, abs-of, le-parts, leZ-true, leZ-false, ⇒le}
 use Rattle.whole.proofs.Quote.{⟨_⟩, #, _⊕_, _⊝_, _⊗_, ⊖, bal, by≡, by≤, by<, of≡, of≤, of<}
 
 pub near-le : (a b : ℕ) → 0 < b → near a b ≤ a
@@ -226,3 +227,34 @@ R-steps h l =
     ∙ sym (floor-steps h (l +ℤ halfFor z))
     ∙ ap (λ (x : ℤ). floorZ x 1073741824) (by≡ (# 32768 ⊗ ⟨ h ⟩ ⊕ (⟨ l ⟩ ⊕ ⟨ halfFor z ⟩)) (# 32768 ⊗ ⟨ h ⟩ ⊕ ⟨ l ⟩ ⊕ ⟨ halfFor z ⟩) (omega arith))
     ∙ R-floor z
+
+-- R of a number of at most k·b is at most k
+near-size : (a b k : ℕ) → 0 < b → a ≤ k * b → near a b ≤ k
+near-size a b k h l = rw (near-mul k b h) at (near-mono a (k * b) b h l)
+
+pub R-size : (z : ℤ) (b k : ℕ) → 0 < b → ∣ z ∣ ≤ k * b → ∣ R z b ∣ ≤ k
+R-size (pos a) b k h l = omega (arith, near-size a b k h (omega arith))
+R-size (negsuc a) b k h l =
+    omega (arith, near-size (suc a) b k h (omega arith), P-neg (pos (near (suc a) b)), N-neg (pos (near (suc a) b)))
+
+-- a value between two days is no larger than the larger of the days' values
+between-size : (z v w : ℤ) (k : ℕ) → v ≤ℤ z → z ≤ℤ w → ∣ v ∣ ≤ k → ∣ w ∣ ≤ k → ∣ z ∣ ≤ k
+between-size z v w k l u a b = abs-of z k (omega (arith, le-parts u)) (omega (arith, le-parts l))
+
+line-by : (v0 v1 u : ℤ) (k : ℕ) → pos 0 ≤ℤ u → u ≤ℤ pos 86400000 → ∣ v0 ∣ ≤ k → ∣ v1 ∣ ≤ k → (t : Bool) → leZ v0 v1 ≡ t → ∣ line v0 v1 u ∣ ≤ k
+line-by v0 v1 u k lo hi a b true e =
+    let h = between v0 v1 u (⇒le v0 v1 (leZ-true v0 v1 e)) lo hi in
+    between-size (line v0 v1 u) v0 v1 k (h .0) (h .1) a b
+line-by v0 v1 u k lo hi a b false e =
+    let n = leZ-false v0 v1 e in
+    let o : v1 ≤ℤ v0 = omega zarith in
+    let z = line v0 v1 u in
+    let m = line v1 v0 u in
+    let h = between v1 v0 u o lo hi in
+    let s = of≡ (⟨ z ⟩ ⊝ ⟨ v0 ⟩) (⊖ (⟨ m ⟩ ⊝ ⟨ v1 ⟩)) (swap v0 v1 u) in
+    let l = of≤ ⟨ v1 ⟩ ⟨ m ⟩ (h .0) in
+    let r = of≤ ⟨ m ⟩ ⟨ v0 ⟩ (h .1) in
+    between-size z v1 v0 k (by≤ ⟨ v1 ⟩ ⟨ z ⟩ (omega arith)) (by≤ ⟨ z ⟩ ⟨ v0 ⟩ (omega arith)) b a
+
+pub line-size : (v0 v1 u : ℤ) (k : ℕ) → pos 0 ≤ℤ u → u ≤ℤ pos 86400000 → ∣ v0 ∣ ≤ k → ∣ v1 ∣ ≤ k → ∣ line v0 v1 u ∣ ≤ k
+line-size v0 v1 u k lo hi a b = line-by v0 v1 u k lo hi a b (leZ v0 v1) refl

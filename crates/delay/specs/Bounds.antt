@@ -1,0 +1,28 @@
+-- How large the numbers of a delay can be: what the code asks of its inputs, by the ranges of document 01's fields.
+use Prim.Native.Nat.{ℕ, _^_, _≤_}
+use lib.IntN.{ℤ}
+use Rattle.whole.specs.Whole.{∣_∣}
+use Rattle.delay.specs.declared.plane.Baseline.{Baseline}
+use Rattle.delay.specs.declared.plane.Direction.{Direction}
+
+-- the difference of two stations
+pub record Short (b : Baseline) : Type 0 where
+  pub x-size : ∣ b .x ∣ ≤ 12800000000
+  pub y-size : ∣ b .y ∣ ≤ 12800000000
+  pub z-size : ∣ b .z ∣ ≤ 12800000000
+
+-- the same after the pole shift
+pub record Shifted (b : Baseline) : Type 0 where
+  pub x-size : ∣ b .x ∣ ≤ 12800062057
+  pub y-size : ∣ b .y ∣ ≤ 12800062057
+  pub z-size : ∣ b .z ∣ ≤ 12800124114
+
+-- the cosine and the sine of a declination
+pub record Turned (d : Direction) : Type 0 where
+  pub cos-size : ∣ d .cos ∣ ≤ 2 ^ 30
+  pub sin-size : ∣ d .sin ∣ ≤ 2 ^ 30
+
+-- the pole's coordinates
+pub record Pole (x y : ℤ) : Type 0 where
+  pub x-size : ∣ x ∣ ≤ 1000000
+  pub y-size : ∣ y ∣ ≤ 1000000
