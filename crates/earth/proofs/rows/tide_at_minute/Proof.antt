@@ -1,0 +1,51 @@
+-- `earth::rows::tide_at_minute` meets its contract. The code's table is the definition's, by computation.
+use borrow.Author.Needs.{needs}
+use mathlib.Core.Path.{_≡_, sym, ap, _∙_}
+use Prim.Native.Nat.{ℕ, _*_, _^_, _≤_}
+use native.Mathlib.Omega.{arith}
+use lib.IntN.{ℤ, pos, _*ℤ_}
+use Rattle.whole.specs.Whole.{∣_∣, R}
+use Rattle.whole.proofs.Linear.{back, ret}
+use Rattle.whole.proofs.Machine.{M, lit, var, _⊠_, val, bounded, ok, is}
+use Rattle.earth.specs.DelaunayArguments.{argumentsOf}
+use Rattle.earth.specs.Rows.{rows}
+use Rattle.earth.specs.TideInUT1.{rowsSum, sizes, tideAt}
+use Rattle.earth.proofs.TideInUT1.{rows-few, rows-size, t-most}
+use Rattle.earth.proofs.rows.tide_at_minute.Statement.{statement}
+use Rattle.earth.proofs.rows.tide_at_minute.Tie as tie
+
+slice-aggregate-rows-sum : tie.Need-slice-aggregate-rows-sum
+slice-aggregate-rows-sum c = search needs
+
+arguments-at-requires : tie.Need-arguments-at-requires
+arguments-at-requires c κs = search needs
+
+rows-sum-requires : tie.Need-rows-sum-requires
+unfolding rows
+rows-sum-requires c κs = let h : sizes rows ≤ 2 ^ 31 = omega (arith, rows-size) in (rows-few, h)
+
+t-is : (c : tie.After-rows-sum) → c .rows-sum .result ≡ rowsSum rows (argumentsOf (c .before .before .before .args .n))
+unfolding rows
+t-is c = c .rows-sum .ensures ∙ ap (rowsSum rows) (simp (back, c .before .before .before .fits .n) at (c .before .arguments-at .ensures))
+
+abbrev thousand : tie.After-rows-sum → M
+thousand c =
+    lit (pos 1000) ⊠ var (c .rows-sum .result) (2723 * 2 ^ 30) (rw (t-is c) (t-most (argumentsOf (c .before .before .before .args .n))))
+
+mul-round-div : tie.Need-mul-round-div
+mul-round-div c = ok (thousand c) tt
+
+round-div-requires : tie.Need-round-div-requires
+round-div-requires c κs = rw (is (thousand c) tt) (omega (arith, bounded (thousand c)))
+
+returns : tie.Need-returns
+unfolding tideAt
+returns c =
+    let d = c .before in
+    ret (c .round-div .result) (c .round-div .ok)
+    ∙ c .round-div .ensures
+    ∙ ap (λ (z : ℤ). R z (2 ^ 30)) (is (thousand d) tt ∙ ap (λ (z : ℤ). pos 1000 *ℤ z) (t-is d))
+
+pub tide-at-minute-spec : {M : Type 1} → statement M
+tide-at-minute-spec =
+    tie.close (tie.spec slice-aggregate-rows-sum arguments-at-requires rows-sum-requires mul-round-div round-div-requires returns)

@@ -1,0 +1,9 @@
+pub mod Ranges
+pub mod Epoch
+pub mod Minutes
+pub mod DelaunayArguments
+pub mod Rows
+pub mod TideInUT1
+pub mod Angle
+pub mod Rotation
+pub mod Calls

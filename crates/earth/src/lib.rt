@@ -1,0 +1,158 @@
+// Earth rotation by whole numbers: epochs, minutes of TT, the five arguments, the tide in UT1, the rotation angle.
+pub mod rows;
+pub mod ticks;
+pub mod time;
+pub mod turn;
+
+use rows::tide_at_minute;
+pub use ticks::Delaunay;
+use ticks::arguments_at;
+pub use time::Epoch;
+use turn::turn_of;
+use whole::long::rotation_ticks;
+use whole::sign::in_range;
+ghost use mathlib.Core.Path.{_≡_};
+ghost use mathlib.Core.Bool.{_&&_};
+ghost use lib.IntN.{pos};
+ghost use Rattle.earth.specs.Ranges.{within, dayOk, msOk, fOk};
+ghost use Rattle.earth.specs.Rotation.{rotationOf};
+ghost use Rattle.earth.specs.Calls.{laterOutcome, argumentsOutcome, tideOutcome, angleOutcome};
+
+#[repr(C)]
+pub struct EpochAnswer {
+    pub refusal: i64,
+    pub day: i64,
+    pub ms: i64,
+}
+
+// Minutes of TT, and the five arguments.
+#[repr(C)]
+pub struct TicksAnswer {
+    pub refusal: i64,
+    pub n: i64,
+    pub l: u32,
+    pub lp: u32,
+    pub f: u32,
+    pub d: u32,
+    pub om: u32,
+}
+
+#[repr(C)]
+pub struct NumberAnswer {
+    pub refusal: i64,
+    pub value: i64,
+}
+
+// E, and ERA.
+#[repr(C)]
+pub struct AngleAnswer {
+    pub refusal: i64,
+    pub e: i64,
+    pub tick: u32,
+}
+
+// Whether the day and the millisecond are in the ranges of their file fields, and `more` is from 0 to `most`.
+fn epoch_ok(day: i64, ms: i64, more: i64, most: i64) -> bool
+    ensures { λ r. ⌜ r ≡ (dayOk day && (msOk ms && within (pos 0) most more)) ⌝ }
+{
+    in_range(day, 41317, 69806) && (in_range(ms, 0, 86399999) && in_range(more, 0, most))
+}
+
+// The epoch that is `add` milliseconds later.
+pub fn later(day: i64, ms: i64, add: i64) -> EpochAnswer
+    ensures { λ r. ⌜ r ≡ laterOutcome day ms add ⌝ }
+{
+    if epoch_ok(day, ms, add, 14742000000) {
+        let e = Epoch { day: day, ms: ms }.later(add);
+        return EpochAnswer {
+            refusal: 0,
+            day: e.day,
+            ms: e.ms,
+        };
+    }
+    EpochAnswer {
+        refusal: 2,
+        day: 0,
+        ms: 0,
+    }
+}
+
+// n and the five arguments at an epoch, where TAI-UTC is `tai` seconds.
+pub fn arguments(day: i64, ms: i64, tai: i64) -> TicksAnswer
+    ensures { λ r. ⌜ r ≡ argumentsOutcome day ms tai ⌝ }
+{
+    if epoch_ok(day, ms, tai, 99) {
+        let n = Epoch { day: day, ms: ms }.minutes(tai);
+        let a = arguments_at(n);
+        return TicksAnswer {
+            refusal: 0,
+            n: n,
+            l: a.l,
+            lp: a.lp,
+            f: a.f,
+            d: a.d,
+            om: a.om,
+        };
+    }
+    TicksAnswer {
+        refusal: 2,
+        n: 0,
+        l: 0,
+        lp: 0,
+        f: 0,
+        d: 0,
+        om: 0,
+    }
+}
+
+// The tide in UT1 in nanoseconds at an epoch, where TAI-UTC is `tai` seconds.
+pub fn tide(day: i64, ms: i64, tai: i64) -> NumberAnswer
+    ensures { λ r. ⌜ r ≡ tideOutcome day ms tai ⌝ }
+{
+    if epoch_ok(day, ms, tai, 99) {
+        let n = Epoch { day: day, ms: ms }.minutes(tai);
+        return NumberAnswer {
+            refusal: 0,
+            value: tide_at_minute(n),
+        };
+    }
+    NumberAnswer {
+        refusal: 2,
+        value: 0,
+    }
+}
+
+// Whether the day and f are in their ranges.
+fn angle_ok(day: i64, f: i64) -> bool
+    ensures { λ r. ⌜ r ≡ (dayOk day && fOk f) ⌝ }
+{
+    in_range(day, 41317, 69806) && in_range(f, -100000000, 86500000000)
+}
+
+// E and ERA of a day and of f microseconds of it.
+pub fn angle_at(day: i64, f: i64) -> AngleAnswer
+    ensures { λ r. ⌜ r ≡ angleOutcome day f ⌝ }
+{
+    if angle_ok(day, f) {
+        let e = turn_of(day, f);
+        return AngleAnswer {
+            refusal: 0,
+            e: e as i64,
+            tick: rotation_ticks(e),
+        };
+    }
+    AngleAnswer {
+        refusal: 2,
+        e: 0,
+        tick: 0,
+    }
+}
+
+// The rotation by a tick, as three rows of three.
+pub fn rotate(tick: u32) -> [[i64; 3]; 3]
+    ensures { λ r. ⌜ r ≡ rotationOf tick ⌝ }
+{
+    let c = sine::cosine(tick);
+    let s = sine::sine(tick);
+    [[c, 0 - s, 0], [s, c, 0], [0, 0, 1073741824]]
+}
