@@ -1,0 +1,6 @@
+pub mod Bits
+pub mod Search
+pub mod Shapes
+pub mod Walk
+pub mod Numbers
+pub mod Sound
