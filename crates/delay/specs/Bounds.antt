@@ -2,6 +2,9 @@
 use Prim.Native.Nat.{ℕ, _^_, _≤_}
 use lib.IntN.{ℤ}
 use Rattle.whole.specs.Whole.{∣_∣}
+use Rattle.earth.specs.Ranges.{InTai}
+use Rattle.session.specs.declared.Day.{Day}
+use Rattle.delay.specs.DayValues.{ut1rOf}
 use Rattle.delay.specs.declared.plane.Baseline.{Baseline}
 use Rattle.delay.specs.declared.plane.Direction.{Direction}
 
@@ -26,3 +29,10 @@ pub record Turned (d : Direction) : Type 0 where
 pub record Pole (x y : ℤ) : Type 0 where
   pub x-size : ∣ x ∣ ≤ 1000000
   pub y-size : ∣ y ∣ ≤ 1000000
+
+-- an orientation record
+pub record InRecord (r : Day) : Type 0 where
+  pub x-size : ∣ r .x ∣ ≤ 1000000
+  pub y-size : ∣ r .y ∣ ≤ 1000000
+  pub ut1-size : ∣ ut1rOf r ∣ ≤ 902723000
+  pub tai : InTai (r .«tai_utc»)

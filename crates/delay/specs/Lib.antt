@@ -1,2 +1,4 @@
 pub mod Bounds
+pub mod DayValues
+pub mod Keeping
 pub mod PlaneWave
