@@ -2,9 +2,9 @@
 use mathlib.Core.Path.{_≡_, refl, ap, _∙_}
 use mathlib.Core.Bool.{Bool, true, false}
 use mathlib.Core.List.{List, [], _∷_, _++_}
-use Prim.Native.Nat.{ℕ, zero, suc, _+_, _*_, _-_, _^_, _≤_}
+use Prim.Native.Nat.{ℕ, zero, suc, _+_, _*_, _-_, _^_, _≤_, _<_}
 use native.Mathlib.Omega.{arith}
-use native.Mathlib.Nat.{mul-le-mul-left, mul-le-mul-right, pow-suc, pow-zero}
+use native.Mathlib.Nat.{mul-pos, mul-le-mul-left, mul-le-mul-right, pow-suc, pow-zero}
 use lib.Dec.{T, leb, leb→le}
 use lib.IntN.{ℤ, pos, negsuc, _+ℤ_, _-ℤ_, _*ℤ_}
 use Rattle.whole.specs.Whole.{∣_∣, signOf}
@@ -75,6 +75,18 @@ scaled e s o m t h =
 pub within : (e u d n s : ℕ) → ∣ pos (s * over d n) -ℤ pos 1073741824 *ℤ sum d u n ∣ ≤ e * over d n → Within e (taylor u d n) s
 unfolding Within
 within e u d n s h = rw (same-top u d n, same-under u d n) (scaled e s (over d n) (times d n) (sum d u n) h)
+
+-- no denominator is 0
+over-positive : (d n : ℕ) → 0 < d → 0 < over d n
+over-positive d zero h = h
+over-positive d (suc n) h = mul-pos (over-positive d n h) (mul-pos (mul-pos h h) (mul-pos (omega arith) (omega arith)))
+
+times-positive : (d n : ℕ) → 0 < d → 0 < times d n
+times-positive d zero h = omega arith
+times-positive d (suc n) h = mul-pos (over-positive d n h) (times-positive d n h)
+
+pub under-positive : (u d n : ℕ) → 0 < d → 0 < taylor u d n .under
+under-positive u d n h = rw (same-under u d n) (mul-pos (over-positive d n h) (times-positive d n h))
 
 -- ---- the sum is u times a polynomial in u^2
 abbrev pub tpoly : ℕ → ℕ → List ℤ
