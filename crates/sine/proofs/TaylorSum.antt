@@ -64,15 +64,15 @@ mutual
       (same-under u d n)
       ∙ (let e : 2 * suc n + 1 ≡ 2 * n + 3 = omega arith in rw e)
 
-scaled : (e s o m : ℕ) (t : ℤ) → ∣ pos (s * o) -ℤ pos 1073741824 *ℤ t ∣ ≤ e * o → ∣ pos (s * (o * m)) -ℤ pos 1073741824 *ℤ (t *ℤ pos m) ∣ ≤ e * (o * m)
+scaled : (e s o m : ℕ) (t : ℤ) → ∣ pos (s * o) -ℤ pos (2 ^ 30) *ℤ t ∣ ≤ e * o → ∣ pos (s * (o * m)) -ℤ pos (2 ^ 30) *ℤ (t *ℤ pos m) ∣ ≤ e * (o * m)
 scaled e s o m t h =
-    let x = pos (s * o) -ℤ pos 1073741824 *ℤ t in
-    let p : pos (s * (o * m)) -ℤ pos 1073741824 *ℤ (t *ℤ pos m) ≡ x *ℤ pos m =
-    by≡ (# (s * (o * m)) ⊝ # 1073741824 ⊗ (⟨ t ⟩ ⊗ # m)) ((# (s * o) ⊝ # 1073741824 ⊗ ⟨ t ⟩) ⊗ # m) (omega arith) in
+    let x = pos (s * o) -ℤ pos (2 ^ 30) *ℤ t in
+    let p : pos (s * (o * m)) -ℤ pos (2 ^ 30) *ℤ (t *ℤ pos m) ≡ x *ℤ pos m =
+    by≡ (# (s * (o * m)) ⊝ # (2 ^ 30) ⊗ (⟨ t ⟩ ⊗ # m)) ((# (s * o) ⊝ # (2 ^ 30) ⊗ ⟨ t ⟩) ⊗ # m) (omega arith) in
     rw (p, abs-mul x (pos m))
     (omega (arith, mul-le-mul-right m h))
 
-pub within : (e u d n s : ℕ) → ∣ pos (s * over d n) -ℤ pos 1073741824 *ℤ sum d u n ∣ ≤ e * over d n → Within e (taylor u d n) s
+pub within : (e u d n s : ℕ) → ∣ pos (s * over d n) -ℤ pos (2 ^ 30) *ℤ sum d u n ∣ ≤ e * over d n → Within e (taylor u d n) s
 unfolding Within
 within e u d n s h = rw (same-top u d n, same-under u d n) (scaled e s (over d n) (times d n) (sum d u n) h)
 
