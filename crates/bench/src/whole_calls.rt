@@ -22,6 +22,21 @@ pub extern "C" fn bench_round(a: i64, b: u64) -> i64
 }
 
 #[no_mangle]
+pub extern "C" fn bench_floor_60000(x: i64) -> i64
+    ensures { λ r. ⌜ r ≡ floorZ x 60000 ⌝ }
+{
+    whole::divide::floor_div(x, 60000)
+}
+
+#[no_mangle]
+pub extern "C" fn bench_round_1000000(a: i64) -> i64
+    requires { ⌜ ∣ a ∣ < 2 ^ 63 ⌝ }
+    ensures { λ r. ⌜ r ≡ R a 1000000 ⌝ }
+{
+    whole::divide::round_div(a, 1000000)
+}
+
+#[no_mangle]
 pub extern "C" fn bench_line(v0: i64, v1: i64, u: i64) -> i64
     requires { ⌜ (∣ v0 ∣ ≤ 1000000000000) × (∣ v1 ∣ ≤ 1000000000000) × (∣ v1 -ℤ v0 ∣ ≤ 101000000000) ⌝ }
     requires { ⌜ (pos 0 ≤ℤ u) × (u ≤ℤ pos 86399999) ⌝ }

@@ -3,7 +3,7 @@
 use mathlib.Core.Path.{_≡_, refl, ap}
 use mathlib.Core.Bool.{Bool, true, false}
 use mathlib.Core.List.{List, _∷_}
-use Prim.Native.Nat.{ℕ, suc, _+_, _*_, _≤_, _<_, min}
+use Prim.Native.Nat.{ℕ, suc, _+_, _*_, _^_, _≤_, _<_, min}
 use native.Mathlib.Omega.{arith}
 use native.Mathlib.Nat.{mul-le-mul, mul-le-mul-right, le-of-mul-le-mul-left}
 use lib.Dec.{leb}
@@ -40,11 +40,19 @@ pub sum-most : (k u n b m : ℕ) → 0 < k → k * (u * u * (n * n)) ≤ m → 1
 sum-most k u n b m z h l = root (1000 * (u * n)) b (le-of-mul-le-mul-left {k = k} (omega arith) z)
 
 -- below the cap the floor m stands, and above it the sum x / g does not pass the cap by e, less κ / 1000 for one term more
-pub capped : (m s g x a b e κ : ℕ) (t : Bool) → leb m 1073741824 ≡ t → s ≡ min m 1073741824 → 5000 * (m * g) ≤ 5000 * x + 8 * b * g → 5000 * x ≤ 5000 * ((m + 1) * g) + (8 * a + 5 * 1066) * g → 1000 * x + κ * g ≤ 1000 * ((1073741824 + e) * g) → 8 * b + 5 * κ ≤ 5000 * e → 10330 + 8 * a + 5 * κ ≤ 5000 * e → (5000 * (s * g) + 5 * κ * g ≤ 5000 * x + 5000 * e * g) × (5000 * x + 5 * κ * g ≤ 5000 * (s * g) + 5000 * e * g)
+pub capped : (m s g x a b e κ : ℕ) (t : Bool)
+    → leb m (2 ^ 30) ≡ t
+    → s ≡ min m (2 ^ 30)
+    → 5000 * (m * g) ≤ 5000 * x + 8 * b * g
+    → 5000 * x ≤ 5000 * ((m + 1) * g) + (8 * a + 5 * 1066) * g
+    → 1000 * x + κ * g ≤ 1000 * ((2 ^ 30 + e) * g)
+    → 8 * b + 5 * κ ≤ 5000 * e
+    → 10330 + 8 * a + 5 * κ ≤ 5000 * e
+    → (5000 * (s * g) + 5 * κ * g ≤ 5000 * x + 5000 * e * g) × (5000 * x + 5 * κ * g ≤ 5000 * (s * g) + 5000 * e * g)
 capped m s g x a b e κ true q f hi lo c nb na =
-    let r : s ≡ m = omega (arith, leb-true m 1073741824 q) in
+    let r : s ≡ m = omega (arith, leb-true m (2 ^ 30) q) in
     omega (arith, ap (λ (t : ℕ). t * g) r, mul-le-mul-right g nb, mul-le-mul-right g na)
 capped m s g x a b e κ false q f hi lo c nb na =
-    let r : s ≡ 1073741824 = omega (arith, leb-false m 1073741824 q) in
+    let r : s ≡ 2 ^ 30 = omega (arith, leb-false m (2 ^ 30) q) in
     let l : s ≤ m = omega arith in
     omega (arith, ap (λ (t : ℕ). t * g) r, mul-le-mul-right g l, mul-le-mul-right g nb)

@@ -17,53 +17,62 @@ use Rattle.sine.proofs.Argument.{E, most, y-lo, y-hi, y-five, u-max, u-
 use Rattle.sine.proofs.TaylorSum.{over, grow, sum, within, tpoly, sum-is, hpoly, num-is}
 use Rattle.sine.proofs.Cap.{squares, squares-le, sum-most, capped}
 
--- What is computed for a first divisor and those that follow: that the scheme is the sum of degree 2 n + 1, that the next term is at most
--- κ / 1000, and that the errors stay below e. `cs` is a list of the cosine's divisors, and `c` brings the sum over the cosine's denominator.
+-- d^2
 abbrev pub vv : ℕ
 vv = argUnder * argUnder
 
-pub record Plan (first : ℕ) (others : List ℕ) (n e κ : ℕ) : Type 0 where
+-- 2^30 times the scheme's sum at u is u times the numerator, over this
+abbrev pub scale : List ℕ → ℕ
+scale ks = E * den vv ks
+
+-- What is computed for a list of divisors, the last of them first: that the scheme is the sum of degree 2 n + 1, that the next term is at most κ / 1000,
+-- and that the errors stay below e. `cs` is a list of the cosine's divisors, and `c` brings the sum over the cosine's denominator.
+pub record Plan (ks : List ℕ) (n e κ : ℕ) : Type 0 where
   pub cs : List ℕ
   pub c : ℕ
-  pub big : T (three (onto others (first ∷ [])))
-  pub same : hpoly vv (onto others (first ∷ [])) ≡ tpoly argUnder n
-  pub ov : over argUnder n ≡ 1073741824 * (E * den vv (onto others (first ∷ [])))
-  pub next : 1000 * most ^ (2 * n + 3) ≤ κ * (E * den vv (onto others (first ∷ [])) * grow argUnder n)
-  pub up : 8 * err 4350 (onto others (first ∷ [])) .1 + 5 * κ ≤ 5000 * e
-  pub down : 10330 + 8 * err 4350 (onto others (first ∷ [])) .0 + 5 * κ ≤ 5000 * e
+  pub big : T (three ks)
+  pub same : hpoly vv ks ≡ tpoly argUnder n
+  pub ov : over argUnder n ≡ 2 ^ 30 * scale ks
+  pub next : 1000 * most ^ (2 * n + 3) ≤ κ * (scale ks * grow argUnder n)
+  pub up : 8 * err 4350 ks .1 + 5 * κ ≤ 5000 * e
+  pub down : 10330 + 8 * err 4350 ks .0 + 5 * κ ≤ 5000 * e
   pub cpos : 0 < c
   pub room : κ ≤ 1000 * e
-  pub one : 1000000 * pup (squares c (hpoly vv (onto others (first ∷ []))) (hpoly vv cs)) (most * most) ≤ c * ((1000 * (1073741824 + e) - κ) * (E * den vv (onto others (first ∷ []))) * ((1000 * (1073741824 + e) - κ) * (E * den vv (onto others (first ∷ [])))))
+  pub one : 1000000 * pup (squares c (hpoly vv ks) (hpoly vv cs)) (most * most) ≤ c * ((1000 * (2 ^ 30 + e) - κ) * scale ks * ((1000 * (2 ^ 30 + e) - κ) * scale ks))
 
 abs-within : (x : ℤ) (u d k : ℕ) → P x + d ≡ N x + u → u ≤ d + k → d ≤ u + k → ∣ x ∣ ≤ k
 abs-within (pos n) u d k e h l = omega arith
 abs-within (negsuc n) u d k e h l = omega arith
 
 -- one term more, of either sign, in the sum than in the scheme
-one-more : (t : Bool) (s g x k c e κ : ℕ) → 5000 * (s * g) + 5 * κ * g ≤ 5000 * x + 5000 * e * g → 5000 * x + 5 * κ * g ≤ 5000 * (s * g) + 5000 * e * g → 1000 * c ≤ κ * (g * k) → ∣ pos (s * (1073741824 * g * k)) -ℤ pos 1073741824 *ℤ (pos x *ℤ pos k +ℤ signOf t c) ∣ ≤ e * (1073741824 * g * k)
+one-more : (t : Bool) (s g x k c e κ : ℕ)
+    → 5000 * (s * g) + 5 * κ * g ≤ 5000 * x + 5000 * e * g
+    → 5000 * x + 5 * κ * g ≤ 5000 * (s * g) + 5000 * e * g
+    → 1000 * c ≤ κ * (g * k)
+    → ∣ pos (s * (2 ^ 30 * g * k)) -ℤ pos (2 ^ 30) *ℤ (pos x *ℤ pos k +ℤ signOf t c) ∣ ≤ e * (2 ^ 30 * g * k)
 one-more true s g x k c e κ hi lo l =
-    abs-within (pos (s * (1073741824 * g * k)) -ℤ pos 1073741824 *ℤ (pos x *ℤ pos k +ℤ negℤ (pos c)))
-    (s * (1073741824 * g * k) + 1073741824 * c)
-    (1073741824 * (x * k))
-    (e * (1073741824 * g * k))
-    (omega (arith, bal (# (s * (1073741824 * g * k)) ⊝ # 1073741824 ⊗ (# x ⊗ # k ⊕ ⊖ (# c)))))
+    abs-within (pos (s * (2 ^ 30 * g * k)) -ℤ pos (2 ^ 30) *ℤ (pos x *ℤ pos k +ℤ negℤ (pos c)))
+    (s * (2 ^ 30 * g * k) + 2 ^ 30 * c)
+    (2 ^ 30 * (x * k))
+    (e * (2 ^ 30 * g * k))
+    (omega (arith, bal (# (s * (2 ^ 30 * g * k)) ⊝ # (2 ^ 30) ⊗ (# x ⊗ # k ⊕ ⊖ (# c)))))
     (omega (arith, mul-le-mul-right k hi))
     (omega (arith, mul-le-mul-right k lo))
 one-more false s g x k c e κ hi lo l =
-    abs-within (pos (s * (1073741824 * g * k)) -ℤ pos 1073741824 *ℤ (pos x *ℤ pos k +ℤ pos c))
-    (s * (1073741824 * g * k))
-    (1073741824 * (x * k) + 1073741824 * c)
-    (e * (1073741824 * g * k))
-    (omega (arith, bal (# (s * (1073741824 * g * k)) ⊝ # 1073741824 ⊗ (# x ⊗ # k ⊕ # c))))
+    abs-within (pos (s * (2 ^ 30 * g * k)) -ℤ pos (2 ^ 30) *ℤ (pos x *ℤ pos k +ℤ pos c))
+    (s * (2 ^ 30 * g * k))
+    (2 ^ 30 * (x * k) + 2 ^ 30 * c)
+    (e * (2 ^ 30 * g * k))
+    (omega (arith, bal (# (s * (2 ^ 30 * g * k)) ⊝ # (2 ^ 30) ⊗ (# x ⊗ # k ⊕ # c))))
     (omega (arith, mul-le-mul-right k hi))
     (omega (arith, mul-le-mul-right k lo))
 
-room-by : (e κ g x : ℕ) → κ ≤ 1000 * e → 1000 * x ≤ (1000 * (1073741824 + e) - κ) * g → 1000 * x + κ * g ≤ 1000 * ((1073741824 + e) * g)
+room-by : (e κ g x : ℕ) → κ ≤ 1000 * e → 1000 * x ≤ (1000 * (2 ^ 30 + e) - κ) * g → 1000 * x + κ * g ≤ 1000 * ((2 ^ 30 + e) * g)
 room-by e κ g x h l =
-    let q : 1000 * (1073741824 + e) - κ + κ ≡ 1000 * (1073741824 + e) = omega arith in
+    let q : 1000 * (2 ^ 30 + e) - κ + κ ≡ 1000 * (2 ^ 30 + e) = omega arith in
     omega (arith, ap (λ (t : ℕ). t * g) q)
 
-module _ (first : ℕ) (others : List ℕ) (n e κ : ℕ) (plan : Plan first others n e κ) (r : ℕ) (h : r ≤ 1073741824) where
+module _ (first : ℕ) (others : List ℕ) (n e κ : ℕ) (plan : Plan (onto others (first ∷ [])) n e κ) (r : ℕ) (h : r ≤ 2 ^ 30) where
   abbrev ks : List ℕ
   ks = onto others (first ∷ [])
 
@@ -71,7 +80,7 @@ module _ (first : ℕ) (others : List ℕ) (n e κ : ℕ) (plan : Plan first oth
   u = argTop r
 
   abbrev g : ℕ
-  g = E * den vv ks
+  g = scale ks
 
   abbrev x : ℕ
   x = u * num vv (u * u) ks
@@ -82,9 +91,9 @@ module _ (first : ℕ) (others : List ℕ) (n e κ : ℕ) (plan : Plan first oth
   is-sum : sum argUnder u n ≡ pos x
   is-sum = sum-is argUnder u n ∙ ap (λ (t : ℤ). pos u *ℤ t) (ap (λ (p : List ℤ). peval p (pos (u * u))) (sym (plan .same)) ∙ sym is-num)
 
-  cap : 1000 * x ≤ (1000 * (1073741824 + e) - κ) * g
+  cap : 1000 * x ≤ (1000 * (2 ^ 30 + e) - κ) * g
   cap =
-      sum-most (plan .c) u (num vv (u * u) ks) ((1000 * (1073741824 + e) - κ) * g) (pup (squares (plan .c) (hpoly vv ks) (hpoly vv (plan .cs))) (most * most))
+      sum-most (plan .c) u (num vv (u * u) ks) ((1000 * (2 ^ 30 + e) - κ) * g) (pup (squares (plan .c) (hpoly vv ks) (hpoly vv (plan .cs))) (most * most))
       (plan .cpos)
       (squares-le (plan .c) (u * u) (most * most) (num vv (u * u) ks) (hpoly vv ks) (hpoly vv (plan .cs)) is-num (mul-le-mul (u-max r h) (u-max r h)))
       (plan .one)
@@ -95,16 +104,16 @@ module _ (first : ℕ) (others : List ℕ) (n e κ : ℕ) (plan : Plan first oth
       let y = yOf r in
       let z = zOf y in
       let i = near vv (u * u) z 4350 (arg r h) ks (plan .big) in
-      let m = y * hs z ks / 1073741824 in
-      capped m (sBy first others r) g x (err 4350 ks .0) (err 4350 ks .1) e κ (leb m 1073741824) refl
-      (ap (λ (t : ℕ). min (y * t / 1073741824) 1073741824) (scheme-is z first others))
+      let m = y * hs z ks / 2 ^ 30 in
+      capped m (sBy first others r) g x (err 4350 ks .0) (err 4350 ks .1) e κ (leb m (2 ^ 30)) refl
+      (ap (λ (t : ℕ). min (y * t / 2 ^ 30) (2 ^ 30)) (scheme-is z first others))
       (floor-hi y u (hs z ks) (err 4350 ks .0) (err 4350 ks .1) (num vv (u * u) ks) (den vv ks) i (y-lo r) (u-five r h))
       (floor-lo y u (hs z ks) (err 4350 ks .0) (err 4350 ks .1) (num vv (u * u) ks) (den vv ks) i 1066 (y-hi r h) (y-five r h))
       (room-by e κ g x (plan .room) cap)
       (plan .up)
       (plan .down)
 
-  reduced : ∣ pos (sBy first others r * over argUnder (suc n)) -ℤ pos 1073741824 *ℤ sum argUnder u (suc n) ∣ ≤ e * over argUnder (suc n)
+  reduced : ∣ pos (sBy first others r * over argUnder (suc n)) -ℤ pos (2 ^ 30) *ℤ sum argUnder u (suc n) ∣ ≤ e * over argUnder (suc n)
   reduced =
       rw (is-sum, plan .ov)
       (one-more (odd? (suc n)) (sBy first others r) g x (grow argUnder n) (u ^ (2 * n + 3)) e κ (both .0) (both .1)
@@ -114,7 +123,7 @@ module _ (first : ℕ) (others : List ℕ) (n e κ : ℕ) (plan : Plan first oth
   distance = within e u argUnder (suc n) (sBy first others r) reduced
 
 -- ---- the six divisors of document 01
-plan : Plan firstDivisor divisors 6 farthest 725
+plan : Plan (onto divisors (firstDivisor ∷ [])) 6 farthest 725
 plan = record {
   cs = 2 ∷ 12 ∷ 30 ∷ 56 ∷ 90 ∷ 132 ∷ 182 ∷ [];
   c = 196 * vv;

@@ -4,7 +4,7 @@
 use mathlib.Core.Path.{_≡_, refl, sym, ap, _∙_}
 use mathlib.Core.Bool.{Bool, true, false, _&&_}
 use mathlib.Core.List.{List, [], _∷_}
-use Prim.Native.Nat.{ℕ, _+_, _*_, _-_, _/_, _≤_, _<_}
+use Prim.Native.Nat.{ℕ, _+_, _*_, _-_, _/_, _^_, _≤_, _<_}
 use native.Mathlib.Omega.{arith}
 use native.Mathlib.Nat.{mul-le-mul, mul-le-mul-left, mul-le-mul-right, le-of-mul-le-mul-left, div-mul-le-self, lt-div-mul-add, mul-div-mul-right, div-le-of-le-mul}
 use lib.Dec.{T, leb, leb→le}
@@ -12,55 +12,55 @@ use Rattle.sine.specs.Sine.{firstOf, stepOf, stepsOf}
 
 -- h is near 2^30 n / d
 pub record Near (h a b n d : ℕ) : Type 0 where
-  pub lo : 1000 * (1073741824 * n) ≤ (1000 * h + a) * d
-  pub hi : 1000 * (h * d) ≤ 1000 * (1073741824 * n) + b * d
+  pub lo : 1000 * (2 ^ 30 * n) ≤ (1000 * h + a) * d
+  pub hi : 1000 * (h * d) ≤ 1000 * (2 ^ 30 * n) + b * d
   pub nd : n ≤ d
-  pub hq : h ≤ 1073741824
+  pub hq : h ≤ 2 ^ 30
 
 -- the argument's square and z
 pub record Arg (v w z e : ℕ) : Type 0 where
   pub vp : 0 < v
-  pub z1 : z * v ≤ 1073741824 * w
-  pub z2 : 1000 * (1073741824 * w) ≤ (1000 * z + e) * v
+  pub z1 : z * v ≤ 2 ^ 30 * w
+  pub z2 : 1000 * (2 ^ 30 * w) ≤ (1000 * z + e) * v
   pub wv : 2 * w ≤ 5 * v
 
 -- from what is taken off to what is left
-left-lo : (m x f h n a : ℕ) → h + f ≡ 1073741824 → n + x ≡ m → 1000 * (f * m) ≤ 1000 * (1073741824 * x) + a * m → 1000 * (1073741824 * n) ≤ (1000 * h + a) * m
+left-lo : (m x f h n a : ℕ) → h + f ≡ 2 ^ 30 → n + x ≡ m → 1000 * (f * m) ≤ 1000 * (2 ^ 30 * x) + a * m → 1000 * (2 ^ 30 * n) ≤ (1000 * h + a) * m
 left-lo m x f h n a p q s = omega (arith, ap (λ (t : ℕ). t * m) p)
 
-left-hi : (m x f h n b : ℕ) → h + f ≡ 1073741824 → n + x ≡ m → 1000 * (1073741824 * x) ≤ 1000 * (f * m) + b * m → 1000 * (h * m) ≤ 1000 * (1073741824 * n) + b * m
+left-hi : (m x f h n b : ℕ) → h + f ≡ 2 ^ 30 → n + x ≡ m → 1000 * (2 ^ 30 * x) ≤ 1000 * (f * m) + b * m → 1000 * (h * m) ≤ 1000 * (2 ^ 30 * n) + b * m
 left-hi m x f h n b p q s = omega (arith, ap (λ (t : ℕ). t * m) p)
 
 module _ (v w z e : ℕ) (g : Arg v w z e) where
-  zq : 2 * z ≤ 5 * 1073741824
+  zq : 2 * z ≤ 5 * 2 ^ 30
   zq = le-of-mul-le-mul-left {k = v} (omega (arith, g .z1, g .wv)) (g .vp)
 
   -- what a step floors away
   module _ (k h a b n d : ℕ) (k3 : 3 ≤ k) (i : Near h a b n d) where
     abbrev f : ℕ
-    f = z * h / (k * 1073741824)
+    f = z * h / (k * 2 ^ 30)
 
-    f-lo : f * (k * 1073741824) ≤ z * h
-    f-lo = div-mul-le-self (z * h) (k * 1073741824)
+    f-lo : f * (k * 2 ^ 30) ≤ z * h
+    f-lo = div-mul-le-self (z * h) (k * 2 ^ 30)
 
-    f-hi : z * h ≤ f * (k * 1073741824) + k * 1073741824
-    f-hi = omega (arith, lt-div-mul-add {a = z * h} {b = k * 1073741824} (omega arith))
+    f-hi : z * h ≤ f * (k * 2 ^ 30) + k * 2 ^ 30
+    f-hi = omega (arith, lt-div-mul-add {a = z * h} {b = k * 2 ^ 30} (omega arith))
 
-    f-q : f ≤ 1073741824
-    f-q = div-le-of-le-mul (k * 1073741824) (omega (arith, mul-le-mul zq (i .hq)))
+    f-q : f ≤ 2 ^ 30
+    f-q = div-le-of-le-mul (k * 2 ^ 30) (omega (arith, mul-le-mul zq (i .hq)))
 
     wn : w * n ≤ k * v * d
     wn = omega (arith, mul-le-mul-left w (i .nd), mul-le-mul-right d (g .wv), mul-le-mul-right (v * d) k3)
 
     -- f k v d ≤ 2^30 w n + b w d / 1000
-    up : 1000 * (f * (k * v * d)) ≤ 1000 * (1073741824 * (w * n)) + b * (w * d)
-    up = le-of-mul-le-mul-left {k = 1073741824} (omega (arith, mul-le-mul-right (1000 * (v * d)) f-lo, mul-le-mul (g .z1) (i .hi))) (omega arith)
+    up : 1000 * (f * (k * v * d)) ≤ 1000 * (2 ^ 30 * (w * n)) + b * (w * d)
+    up = le-of-mul-le-mul-left {k = 2 ^ 30} (omega (arith, mul-le-mul-right (1000 * (v * d)) f-lo, mul-le-mul (g .z1) (i .hi))) (omega arith)
 
     -- 2^30 w n ≤ (f + 1) k v d + (e + 5 a / 2) v d / 1000
-    dn : 2000 * (1073741824 * (w * n)) ≤ 2000 * (f * (k * v * d)) + 2000 * (k * v * d) + (5 * a + 2 * e) * (v * d)
+    dn : 2000 * (2 ^ 30 * (w * n)) ≤ 2000 * (f * (k * v * d)) + 2000 * (k * v * d) + (5 * a + 2 * e) * (v * d)
     dn =
-        le-of-mul-le-mul-left {k = 1073741824 * 1000}
-        (omega (arith, mul-le-mul-right (1000 * (1073741824 * n)) (g .z2), mul-le-mul-left (z * v) (i .lo), mul-le-mul-right (v * d) f-hi, mul-le-mul-right (a * (v * d)) zq, mul-le-mul-left (e * v) (i .nd)))
+        le-of-mul-le-mul-left {k = 2 ^ 30 * 1000}
+        (omega (arith, mul-le-mul-right (1000 * (2 ^ 30 * n)) (g .z2), mul-le-mul-left (z * v) (i .lo), mul-le-mul-right (v * d) f-hi, mul-le-mul-right (a * (v * d)) zq, mul-le-mul-left (e * v) (i .nd)))
         (omega arith)
 
     step : (a' b' : ℕ) → 5 * b ≤ a' * (2 * k) → 2000 * k + 5 * a + 2 * e ≤ b' * (2 * k) → Near (stepOf z h k) a' b' (k * v * d - w * n) (k * v * d)
@@ -68,7 +68,7 @@ module _ (v w z e : ℕ) (g : Arg v w z e) where
         let s1 = mul-le-mul (g .wv) ha in
         let s2 = mul-le-mul-right d s1 in
         let s3 = mul-le-mul-right (v * d) hb in
-        let p : stepOf z h k + f ≡ 1073741824 = omega (arith, f-q) in
+        let p : stepOf z h k + f ≡ 2 ^ 30 = omega (arith, f-q) in
         let q : k * v * d - w * n + w * n ≡ k * v * d = omega (arith, wn) in
         record {
           lo = left-lo (k * v * d) (w * n) f (stepOf z h k) (k * v * d - w * n) a' p q (omega (arith, up));
@@ -79,7 +79,7 @@ module _ (v w z e : ℕ) (g : Arg v w z e) where
 
 -- ---- the scheme of a list of divisors, the last of them first
 abbrev pub hs : ℕ → List ℕ → ℕ
-hs z [] = 1073741824
+hs z [] = 2 ^ 30
 hs z (k ∷ ks) = stepOf z (hs z ks) k
 
 abbrev pub den : ℕ → List ℕ → ℕ
@@ -127,4 +127,4 @@ steps-are z [] ks = refl
 steps-are z (l ∷ ls) ks = steps-are z ls (l ∷ ks)
 
 pub scheme-is : (z k : ℕ) (ls : List ℕ) → stepsOf z (firstOf z k) ls ≡ hs z (onto ls (k ∷ []))
-scheme-is z k ls = ap (λ (t : ℕ). stepsOf z (1073741824 - t) ls) (sym (mul-div-mul-right z k (omega arith))) ∙ steps-are z ls (k ∷ [])
+scheme-is z k ls = ap (λ (t : ℕ). stepsOf z (2 ^ 30 - t) ls) (sym (mul-div-mul-right z k (omega arith))) ∙ steps-are z ls (k ∷ [])

@@ -71,7 +71,13 @@ inside (suc (suc zero)) r k l = let e : 2 ^ 30 - (2 ^ 30 - r) ≡ r = omega arit
 inside (suc (suc (suc zero))) r k l = sym (negℤ-negℤ (pos (S (2 ^ 30 - r))))
 inside (suc (suc (suc (suc q)))) r k l = absurd (omega arith)
 
-odd-by : (b q r q' r' : ℕ) → q < 4 → r < 2 ^ 30 → b ≡ q' * 2 ^ 30 + r' → r' < 2 ^ 30 → b ≡ (2 ^ 32 - (q * 2 ^ 30 + r)) % 2 ^ 32 → quarter q' r' ≡ negℤ (quarter q r)
+odd-by : (b q r q' r' : ℕ)
+    → q < 4
+    → r < 2 ^ 30
+    → b ≡ q' * 2 ^ 30 + r'
+    → r' < 2 ^ 30
+    → b ≡ (2 ^ 32 - (q * 2 ^ 30 + r)) % 2 ^ 32
+    → quarter q' r' ≡ negℤ (quarter q r)
 odd-by b q zero q' r' k l e m f =
     let e1 : q' ≡ (4 - q) % 4 = omega arith in
     let e2 : r' ≡ 0 = omega arith in

@@ -12,7 +12,15 @@ use Rattle.sine.specs.Sine.{yOf, zOf, firstOf, stepOf, stepsOf, sBy, S, 
 pub step-fits : (z h k : ℕ) → z ≤ 2649352000 → h ≤ 2 ^ 30 → 3 ≤ k → z * h / (k * 2 ^ 30) ≤ 2 ^ 30
 step-fits z h k a b c = div-le-of-le-mul (k * 2 ^ 30) (omega (arith, mul-le-mul a b))
 
-pub s-is : (r y z h5 h4 h3 h2 h1 : ℕ) → y ≡ yOf r → z ≡ zOf y → h5 ≡ stepOf z (firstOf z 156) 110 → h4 ≡ stepOf z h5 72 → h3 ≡ stepOf z h4 42 → h2 ≡ stepOf z h3 20 → h1 ≡ stepOf z h2 6 → min (y * h1 / 2 ^ 30) (2 ^ 30) ≡ S r
+pub s-is : (r y z h5 h4 h3 h2 h1 : ℕ)
+    → y ≡ yOf r
+    → z ≡ zOf y
+    → h5 ≡ stepOf z (firstOf z 156) 110
+    → h4 ≡ stepOf z h5 72
+    → h3 ≡ stepOf z h4 42
+    → h2 ≡ stepOf z h3 20
+    → h1 ≡ stepOf z h2 6
+    → min (y * h1 / 2 ^ 30) (2 ^ 30) ≡ S r
 unfolding S sBy stepsOf
 s-is r y z h5 h4 h3 h2 h1 ey ez e5 e4 e3 e2 e1 = simp (e1, e2, e3, e4, e5, ez, ey)
 

@@ -2,9 +2,9 @@
 use mathlib.Core.Path.{_≡_, refl, ap, _∙_}
 use mathlib.Core.Bool.{Bool, true, false}
 use mathlib.Core.List.{List, [], _∷_, _++_}
-use Prim.Native.Nat.{ℕ, zero, suc, _+_, _*_, _-_, _^_, _≤_}
+use Prim.Native.Nat.{ℕ, zero, suc, _+_, _*_, _-_, _^_, _≤_, _<_}
 use native.Mathlib.Omega.{arith}
-use native.Mathlib.Nat.{mul-le-mul-left, mul-le-mul-right, pow-suc, pow-zero}
+use native.Mathlib.Nat.{mul-pos, mul-le-mul-left, mul-le-mul-right, pow-suc, pow-zero}
 use lib.Dec.{T, leb, leb→le}
 use lib.IntN.{ℤ, pos, negsuc, _+ℤ_, _-ℤ_, _*ℤ_}
 use Rattle.whole.specs.Whole.{∣_∣, signOf}
@@ -64,17 +64,29 @@ mutual
       (same-under u d n)
       ∙ (let e : 2 * suc n + 1 ≡ 2 * n + 3 = omega arith in rw e)
 
-scaled : (e s o m : ℕ) (t : ℤ) → ∣ pos (s * o) -ℤ pos 1073741824 *ℤ t ∣ ≤ e * o → ∣ pos (s * (o * m)) -ℤ pos 1073741824 *ℤ (t *ℤ pos m) ∣ ≤ e * (o * m)
+scaled : (e s o m : ℕ) (t : ℤ) → ∣ pos (s * o) -ℤ pos (2 ^ 30) *ℤ t ∣ ≤ e * o → ∣ pos (s * (o * m)) -ℤ pos (2 ^ 30) *ℤ (t *ℤ pos m) ∣ ≤ e * (o * m)
 scaled e s o m t h =
-    let x = pos (s * o) -ℤ pos 1073741824 *ℤ t in
-    let p : pos (s * (o * m)) -ℤ pos 1073741824 *ℤ (t *ℤ pos m) ≡ x *ℤ pos m =
-    by≡ (# (s * (o * m)) ⊝ # 1073741824 ⊗ (⟨ t ⟩ ⊗ # m)) ((# (s * o) ⊝ # 1073741824 ⊗ ⟨ t ⟩) ⊗ # m) (omega arith) in
+    let x = pos (s * o) -ℤ pos (2 ^ 30) *ℤ t in
+    let p : pos (s * (o * m)) -ℤ pos (2 ^ 30) *ℤ (t *ℤ pos m) ≡ x *ℤ pos m =
+    by≡ (# (s * (o * m)) ⊝ # (2 ^ 30) ⊗ (⟨ t ⟩ ⊗ # m)) ((# (s * o) ⊝ # (2 ^ 30) ⊗ ⟨ t ⟩) ⊗ # m) (omega arith) in
     rw (p, abs-mul x (pos m))
     (omega (arith, mul-le-mul-right m h))
 
-pub within : (e u d n s : ℕ) → ∣ pos (s * over d n) -ℤ pos 1073741824 *ℤ sum d u n ∣ ≤ e * over d n → Within e (taylor u d n) s
+pub within : (e u d n s : ℕ) → ∣ pos (s * over d n) -ℤ pos (2 ^ 30) *ℤ sum d u n ∣ ≤ e * over d n → Within e (taylor u d n) s
 unfolding Within
 within e u d n s h = rw (same-top u d n, same-under u d n) (scaled e s (over d n) (times d n) (sum d u n) h)
+
+-- no denominator is 0
+over-positive : (d n : ℕ) → 0 < d → 0 < over d n
+over-positive d zero h = h
+over-positive d (suc n) h = mul-pos (over-positive d n h) (mul-pos (mul-pos h h) (mul-pos (omega arith) (omega arith)))
+
+times-positive : (d n : ℕ) → 0 < d → 0 < times d n
+times-positive d zero h = omega arith
+times-positive d (suc n) h = mul-pos (over-positive d n h) (times-positive d n h)
+
+pub under-positive : (u d n : ℕ) → 0 < d → 0 < taylor u d n .under
+under-positive u d n h = rw (same-under u d n) (mul-pos (over-positive d n h) (times-positive d n h))
 
 -- ---- the sum is u times a polynomial in u^2
 abbrev pub tpoly : ℕ → ℕ → List ℤ

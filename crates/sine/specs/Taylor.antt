@@ -6,7 +6,7 @@ use lib.IntN.{ℤ, pos, _+ℤ_, _-ℤ_, _*ℤ_}
 use Rattle.whole.specs.Whole.{∣_∣, signOf}
 use Rattle.sine.specs.Sine.{S}
 
--- a whole number over a natural
+-- a whole number over a natural, which is never 0 in the sums below (`under-positive` of proofs/TaylorSum.antt)
 pub record Fraction : Type 0 where
   pub top : ℤ
   pub under : ℕ
