@@ -4,3 +4,5 @@ pub mod Shapes
 pub mod Walk
 pub mod Numbers
 pub mod Sound
+pub mod Accepted
+pub mod Fields

@@ -87,3 +87,26 @@ place-some (ls ∷ rest) (suc p) k h = place-some rest p k (both (allOf some ls)
 pub stands-some : (p k : ℕ) → standsIn p k ≡ ltb 0 (length (layoutIn p k .fields))
 unfolding layoutIn standsIn places station source orientation pass some
 stands-some p k = place-some places p k refl
+
+-- ---- the one layout that may stand in each place
+
+only : (l : Layout) (k : ℕ) (b : Bool) → eqb k (l .kind) ≡ b → cond b true false ≡ true → ofKind (l ∷ []) k ≡ l
+only l k true e h = rw e
+only l k false e h = no-way h
+
+module _ (k : ℕ) where
+  pub in-first : standsIn 0 k ≡ true → layoutIn 0 k ≡ station
+  unfolding layoutIn standsIn places station
+  in-first h = only station k (eqb k 1) refl h
+
+  pub in-second : standsIn 1 k ≡ true → layoutIn 1 k ≡ source
+  unfolding layoutIn standsIn places source
+  in-second h = only source k (eqb k 2) refl h
+
+  pub in-third : standsIn 2 k ≡ true → layoutIn 2 k ≡ orientation
+  unfolding layoutIn standsIn places orientation
+  in-third h = only orientation k (eqb k 3) refl h
+
+  pub in-fourth : standsIn 3 k ≡ true → layoutIn 3 k ≡ pass
+  unfolding layoutIn standsIn places pass
+  in-fourth h = only pass k (eqb k 4) refl h

@@ -27,7 +27,7 @@ starts-rise s p zero = rw (add-zero p) (omega arith)
 starts-rise s p (suc d) = rw (add-suc p d) (omega (arith, starts-rise s p d))
 
 module _ (s : List ℕ) (h : contentsRight s ≡ true) where
-  five : (sectionsRight s ≡ true) × (kindsRight s ≡ true) × (countsRight s ≡ true) × (offsetsRight s ≡ true) × (lengthRight s ≡ true)
+  pub five : (sectionsRight s ≡ true) × (kindsRight s ≡ true) × (countsRight s ≡ true) × (offsetsRight s ≡ true) × (lengthRight s ≡ true)
   unfolding contentsRight
   five =
       let a = both (sectionsRight s) _ h in

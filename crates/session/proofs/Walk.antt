@@ -41,7 +41,7 @@ module _ (s : List ℕ) (p : ℕ) (h : countRight s p ≡ true) where
 -- ---- the words in their order
 
 -- the three words of place p stand behind word 3 p
-entry-words : (s : List ℕ) (p k : ℕ) → k < 3 → wordRight s (3 * p + 1 + k) ≡ entryRight s p k
+pub entry-words : (s : List ℕ) (p k : ℕ) → k < 3 → wordRight s (3 * p + 1 + k) ≡ entryRight s p k
 entry-words s p k h =
     let e : 3 * p + 1 + k ≡ suc (3 * p + k) = omega arith in
     let f : (3 * p + k) / 3 ≡ p = omega arith in

@@ -1,13 +1,13 @@
 -- What the inner loops of the code give, said of bytes and plain numbers; laws show it to be what the file's definitions say.
 use Prim.Native.Nat.{ℕ, _+_, _*_}
-use mathlib.Core.Bool.{Bool, _&&_}
+use mathlib.Core.Bool.{Bool, not, _&&_}
 use mathlib.Core.List.{List}
 use lib.ListN.{getD}
 use lib.IntN.{ℤ, pos}
 use lib.Signed.{leZ}
 use Rattle.session.specs.Each.{allBelow}
 use Rattle.session.specs.Words.{numberAt}
-use Rattle.session.specs.File.{steps}
+use Rattle.session.specs.File.{steps, eqZ}
 
 -- number k from byte at on lies between the k-th of low and the k-th of high
 abbrev pub insideBy : List ℕ → ℕ → List ℤ → List ℤ → ℕ → Bool
@@ -20,3 +20,7 @@ recordBy s at size low high i = allBelow size (insideBy s (at + 8 * (size * i)) 
 -- the first number of record i + 1 may stand behind that of record i
 abbrev pub stepBy : List ℕ → ℕ → ℕ → ℕ → ℕ → Bool
 stepBy s at size o i = steps o (numberAt s (at + 8 * (size * i))) (numberAt s (at + 8 * (size * (i + 1))))
+
+-- the first number of record i is another than z
+abbrev pub otherBy : List ℕ → ℕ → ℕ → ℤ → ℕ → Bool
+otherBy s at size z i = not (eqZ (numberAt s (at + 8 * (size * i))) z)

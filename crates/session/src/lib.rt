@@ -3,6 +3,8 @@ pub mod contents;
 pub mod layouts;
 pub mod order;
 pub mod ranges;
+pub mod records;
+pub mod refusal;
 pub mod words;
 
 #[repr(C)]

@@ -11,7 +11,7 @@ use crate::contents::layout_of;
 use crate::words::number_at;
 use crate::words::word_at;
 
-fn inside(low: i64, high: i64, z: i64) -> bool
+pub fn inside(low: i64, high: i64, z: i64) -> bool
     ensures { λ r. ⌜ r ≡ leZ low z && leZ z high ⌝ }
 {
     if low <= z {

@@ -1,0 +1,62 @@
+-- Which layout stands in each place of a file whose contents table is right, and the fields as the code reads them. Assumes nothing.
+use mathlib.Core.Path.{_≡_, refl, sym, ap, _∙_}
+use Prim.Native.Nat.{ℕ, _+_, _*_, _^_, _≤_, _<_}
+use native.Mathlib.Nat.{add-zero}
+use native.Mathlib.Omega.{arith}
+use mathlib.Core.Bool.{Bool, true, not}
+use mathlib.Core.List.{List}
+use lib.ListN.{length}
+use lib.IntN.{ℤ}
+use lib.Signed.{mag}
+use mir.Syntax.{w64}
+use mir.Val.{toZ, ofZ}
+use Rattle.whole.proofs.Linear.{ret}
+use Rattle.session.specs.Each.{firstNot}
+use Rattle.session.specs.Words.{numberAt}
+use Rattle.session.specs.Layouts.{Layout, station, source, orientation, pass}
+use Rattle.session.specs.File.{contentsRight, kindOf, layoutOf, sizeOf, firstByte, countOf, recordByte, fieldAt, eqZ, refusalOf}
+use Rattle.session.specs.Code.{otherBy}
+use Rattle.session.specs.Records.{placeBy}
+use Rattle.session.proofs.Search.{first-same}
+use Rattle.session.proofs.Shapes.{in-first, in-second, in-third, in-fourth}
+use Rattle.session.proofs.Sound.{kind-stands}
+use Rattle.session.proofs.Accepted.{accepted-contents}
+
+module _ (s : List ℕ) (h : refusalOf s ≡ 0) where
+  pub layout-first : layoutOf s 0 ≡ station
+  layout-first = in-first (kindOf s 0) (kind-stands s (accepted-contents s h) 0 (omega arith))
+
+  pub layout-second : layoutOf s 1 ≡ source
+  layout-second = in-second (kindOf s 1) (kind-stands s (accepted-contents s h) 1 (omega arith))
+
+  pub layout-third : layoutOf s 2 ≡ orientation
+  layout-third = in-third (kindOf s 2) (kind-stands s (accepted-contents s h) 2 (omega arith))
+
+  pub layout-fourth : layoutOf s 3 ≡ pass
+  layout-fourth = in-fourth (kindOf s 3) (kind-stands s (accepted-contents s h) 3 (omega arith))
+
+  pub size-first : sizeOf s 0 ≡ 4
+  unfolding station
+  size-first = ap (λ (l : Layout). length (l .fields)) layout-first
+
+  pub size-second : sizeOf s 1 ≡ 3
+  unfolding source
+  size-second = ap (λ (l : Layout). length (l .fields)) layout-second
+
+  pub size-third : sizeOf s 2 ≡ 5
+  unfolding orientation
+  size-third = ap (λ (l : Layout). length (l .fields)) layout-third
+
+  pub size-fourth : sizeOf s 3 ≡ 8
+  unfolding pass
+  size-fourth = ap (λ (l : Layout). length (l .fields)) layout-fourth
+
+-- a number that was read of a record that starts at b, put into a struct
+pub field-back : (s : List ℕ) (r : ℤ) (a b k : ℕ) → mag r < 2 ^ 63 → r ≡ numberAt s (a + 8 * k) → a ≡ b → toZ w64 (ofZ w64 r) ≡ numberAt s (b + 8 * k)
+field-back s r a b k f e g = ret r f ∙ e ∙ ap (λ (n : ℕ). numberAt s (n + 8 * k)) g
+
+-- the search for a record, over bytes
+pub places-same : (s : List ℕ) (p : ℕ) (z : ℤ) → firstNot (countOf s p) (otherBy s (firstByte s p) (sizeOf s p) z) ≡ placeBy s p z
+unfolding placeBy recordByte
+places-same s p z =
+    first-same (countOf s p) _ _ (λ i l. ap (λ (n : ℕ). not (eqZ (numberAt s n) z)) (sym (add-zero (firstByte s p + 8 * (sizeOf s p * i)))))

@@ -1,0 +1,25 @@
+use mathlib.Core.Path.{_≡_, ap, _∙_}
+use Rattle.whole.proofs.Linear.{ret}
+use Rattle.session.proofs.Numbers.{inside-same}
+use mir.Facts.{toZ-ofZ}
+use borrow.Author.Needs.{needs}
+use Rattle.session.proofs.records.number_is.Statement.{statement}
+use Rattle.session.proofs.records.number_is.Tie as tie
+use Rattle.session.proofs.records.number_is.Reads as reads
+use Rattle.session.proofs.records.number_is.Lts as lts
+use Rattle.session.proofs.ranges.inside.Reads as inside-reads
+use Rattle.session.proofs.words.number_at.Reads as number-at-reads
+
+number-at-requires : tie.Need-number-at-requires
+number-at-requires c κs = search needs
+
+inside-requires : tie.Need-inside-requires
+inside-requires c κs = search needs
+
+returns : tie.Need-returns
+returns c =
+    let e = ret (c .before .number-at .result) (c .before .number-at .ok) ∙ c .before .number-at .ensures in
+    c .inside .ensures ∙ inside-same e e (toZ-ofZ (c .before .before .before .fits .z))
+
+pub number-is-spec : {M : Type 1} → statement M
+number-is-spec = tie.close (tie.spec number-at-requires inside-requires returns)

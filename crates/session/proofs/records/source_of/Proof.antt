@@ -1,0 +1,46 @@
+use native.Mathlib.Omega.{arith}
+use mathlib.Core.Path.{_≡_}
+use lib.IntN.{pos}
+use Rattle.session.specs.File.{recordByte}
+use Rattle.session.specs.Records.{sourceOf}
+use Rattle.session.proofs.Fields.{size-second, field-back}
+use borrow.Author.Needs.{needs}
+use Rattle.session.proofs.records.source_of.Statement.{statement}
+use Rattle.session.proofs.records.source_of.Tie as tie
+use Rattle.session.proofs.records.source_of.Reads as reads
+use Rattle.session.proofs.records.source_of.Lts as lts
+use Rattle.session.proofs.refusal.field_at.Reads as field-at-reads
+use Rattle.session.proofs.refusal.record_byte.Reads as record-byte-reads
+
+record-byte-requires : tie.Need-record-byte-requires
+record-byte-requires c κs = search needs
+
+field-at-requires : tie.Need-field-at-requires
+field-at-requires c κs = omega (arith, c .record-byte .ensures .1, size-second _ (c .before .before .pre .0))
+
+field-at-requires-2 : tie.Need-field-at-requires-2
+field-at-requires-2 c κs = omega (arith, c .before .record-byte .ensures .1, size-second _ (c .before .before .before .pre .0))
+
+field-at-requires-3 : tie.Need-field-at-requires-3
+field-at-requires-3 c κs = omega (arith, c .before .before .record-byte .ensures .1, size-second _ (c .before .before .before .before .pre .0))
+
+returns : tie.Need-returns
+unfolding sourceOf
+returns c =
+    let s = c .before .before .before .before .before .args .s .now in
+    let b = c .before .before .before .record-byte in
+    let at = recordByte s 1 (c .before .before .before .before .before .args .i) in
+    let f0 = field-back s (c .before .before .field-at .result) (b .result) at 0 (c .before .before .field-at .ok) (c .before .before .field-at .ensures) (b .ensures .0) in
+    let f1 = field-back s (c .before .field-at2 .result) (b .result) at 1 (c .before .field-at2 .ok) (c .before .field-at2 .ensures) (b .ensures .0) in
+    let f2 = field-back s (c .field-at3 .result) (b .result) at 2 (c .field-at3 .ok) (c .field-at3 .ensures) (b .ensures .0) in
+    λ j. record { refusal = pos 0; id = f0 j; «right_ascension» = f1 j; declination = f2 j }
+
+pub source-of-spec : {M : Type 1} → statement M
+source-of-spec =
+    tie.close
+    (tie.spec
+    record-byte-requires
+    field-at-requires
+    field-at-requires-2
+    field-at-requires-3
+    returns)

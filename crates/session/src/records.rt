@@ -1,0 +1,169 @@
+// The records of a file that is accepted: by their place in their section, and by their id or day.
+ghost use mathlib.Core.Path.{_≡_};
+ghost use mathlib.Core.Bool.{not};
+ghost use Prim.Native.Nat.{ℕ, _+_, _*_, _<_, _≤_};
+ghost use lib.ListN.{length};
+ghost use Rattle.session.specs.Each.{firstNot};
+ghost use Rattle.session.specs.Words.{numberAt};
+ghost use Rattle.session.specs.Code.{otherBy};
+ghost use Rattle.session.specs.File.{refusalOf, countOf, eqZ};
+ghost use Rattle.session.specs.Records.{stationOf, sourceOf, dayOf, passOf, placeBy, stationBy, sourceBy, dayBy};
+use crate::Day;
+use crate::Pass;
+use crate::Source;
+use crate::Station;
+use crate::contents::layout_of;
+use crate::ranges::inside;
+use crate::refusal::count_of;
+use crate::refusal::field_at;
+use crate::refusal::record_byte;
+use crate::words::number_at;
+use crate::words::word_at;
+
+pub fn station_of(s: &[u8], i: usize) -> Station
+    requires { ⌜ (refusalOf (now s) ≡ 0) × (i < countOf (now s) 0) ⌝ }
+    ensures { λ r. ⌜ r ≡ stationOf (now (s .entry)) i ⌝ }
+{
+    let at = record_byte(s, 0, i);
+    let id = field_at(s, at, 0);
+    let x = field_at(s, at, 1);
+    let y = field_at(s, at, 2);
+    let z = field_at(s, at, 3);
+    Station {
+        refusal: 0,
+        id: id,
+        x: x,
+        y: y,
+        z: z,
+    }
+}
+
+pub fn source_of(s: &[u8], i: usize) -> Source
+    requires { ⌜ (refusalOf (now s) ≡ 0) × (i < countOf (now s) 1) ⌝ }
+    ensures { λ r. ⌜ r ≡ sourceOf (now (s .entry)) i ⌝ }
+{
+    let at = record_byte(s, 1, i);
+    let id = field_at(s, at, 0);
+    let right_ascension = field_at(s, at, 1);
+    let declination = field_at(s, at, 2);
+    Source {
+        refusal: 0,
+        id: id,
+        right_ascension: right_ascension,
+        declination: declination,
+    }
+}
+
+pub fn day_of(s: &[u8], i: usize) -> Day
+    requires { ⌜ (refusalOf (now s) ≡ 0) × (i < countOf (now s) 2) ⌝ }
+    ensures { λ r. ⌜ r ≡ dayOf (now (s .entry)) i ⌝ }
+{
+    let at = record_byte(s, 2, i);
+    let mjd = field_at(s, at, 0);
+    let x = field_at(s, at, 1);
+    let y = field_at(s, at, 2);
+    let ut1_utc = field_at(s, at, 3);
+    let tai_utc = field_at(s, at, 4);
+    Day {
+        refusal: 0,
+        mjd: mjd,
+        x: x,
+        y: y,
+        ut1_utc: ut1_utc,
+        tai_utc: tai_utc,
+    }
+}
+
+pub fn pass_of(s: &[u8], i: usize) -> Pass
+    requires { ⌜ (refusalOf (now s) ≡ 0) × (i < countOf (now s) 3) ⌝ }
+    ensures { λ r. ⌜ r ≡ passOf (now (s .entry)) i ⌝ }
+{
+    let at = record_byte(s, 3, i);
+    let station1 = field_at(s, at, 0);
+    let station2 = field_at(s, at, 1);
+    let source = field_at(s, at, 2);
+    let mjd = field_at(s, at, 3);
+    let ms = field_at(s, at, 4);
+    let step = field_at(s, at, 5);
+    let samples = field_at(s, at, 6);
+    let tolerance = field_at(s, at, 7);
+    Pass {
+        refusal: 0,
+        station1: station1,
+        station2: station2,
+        source: source,
+        mjd: mjd,
+        ms: ms,
+        step: step,
+        samples: samples,
+        tolerance: tolerance,
+    }
+}
+
+// Whether the number at byte at is z.
+fn number_is(s: &[u8], at: usize, z: i64) -> bool
+    requires { ⌜ at + 8 ≤ length (now s) ⌝ }
+    ensures { λ r. ⌜ r ≡ eqZ (numberAt (now (s .entry)) at) z ⌝ }
+{
+    let a = number_at(s, at);
+    inside(a, a, z)
+}
+
+// The first of n records of size numbers from byte at on whose first number is z, or n.
+fn first_with(s: &[u8], at: usize, n: usize, size: usize, z: i64) -> usize
+    requires { ⌜ (at + 8 * (size * n) ≤ length (now s)) × (0 < size) ⌝ }
+    ensures { λ r. ⌜ r ≡ firstNot n (otherBy (now (s .entry)) at size z) ⌝ }
+{
+    let mut i: usize = 0;
+    while i < n {
+        if number_is(s, at + 8 * (size * i), z) {
+            return i;
+        }
+        i += 1;
+    }
+    i
+}
+
+// The first record of place p whose first field is z, or the number of its records.
+fn place_by(s: &[u8], p: usize, z: i64) -> usize
+    requires { ⌜ (refusalOf (now s) ≡ 0) × (p < 4) ⌝ }
+    ensures { λ r. ⌜ r ≡ placeBy (now (s .entry)) p z ⌝ }
+{
+    let l = layout_of(s, p);
+    first_with(s, word_at(s, 3 * p + 2), word_at(s, 3 * p + 3), l.size, z)
+}
+
+// The station of an id, or refusal 5.
+pub fn station_by(s: &[u8], id: i64) -> Station
+    requires { ⌜ refusalOf (now s) ≡ 0 ⌝ }
+    ensures { λ r. ⌜ r ≡ stationBy (now (s .entry)) id ⌝ }
+{
+    let i = place_by(s, 0, id);
+    if i < count_of(s, 0) {
+        return station_of(s, i);
+    }
+    Station {
+        refusal: 5,
+        id: 0,
+        x: 0,
+        y: 0,
+        z: 0,
+    }
+}
+
+// The source of an id, or refusal 5.
+pub fn source_by(s: &[u8], id: i64) -> Source
+    requires { ⌜ refusalOf (now s) ≡ 0 ⌝ }
+    ensures { λ r. ⌜ r ≡ sourceBy (now (s .entry)) id ⌝ }
+{
+    let i = place_by(s, 1, id);
+    if i < count_of(s, 1) {
+        return source_of(s, i);
+    }
+    Source {
+        refusal: 5,
+        id: 0,
+        right_ascension: 0,
+        declination: 0,
+    }
+}
