@@ -1,12 +1,17 @@
 -- How large the numbers of a delay can be: what the code asks of its inputs, by the ranges of document 01's fields.
 use Prim.Native.Nat.{ℕ, _^_, _≤_}
-use lib.IntN.{ℤ}
+use lib.IntN.{ℤ, pos, negℤ}
+use Rattle.whole.proofs.Linear.{In}
 use Rattle.whole.specs.Whole.{∣_∣}
 use Rattle.earth.specs.Ranges.{InTai}
 use Rattle.session.specs.declared.Day.{Day}
 use Rattle.delay.specs.DayValues.{ut1rOf}
 use Rattle.delay.specs.declared.plane.Baseline.{Baseline}
 use Rattle.delay.specs.declared.plane.Direction.{Direction}
+
+-- a right ascension or a declination
+abbrev pub InTick : ℤ → Type 0
+InTick a = In (negℤ (pos 1073741824)) (pos 4294967295) a
 
 -- the difference of two stations
 pub record Short (b : Baseline) : Type 0 where

@@ -1,4 +1,6 @@
 pub mod Bounds
+pub mod Calls
 pub mod DayValues
 pub mod Keeping
 pub mod PlaneWave
+pub mod Sessions

@@ -39,9 +39,9 @@ waveOf b h cos sin = R (negℤ (alongSource b h cos sin) *ℤ pos 1000000000) 29
 abbrev pub tickOf : ℤ → ℕ
 tickOf a = modZ a (2 ^ 32)
 
--- a source's right ascension, and the cosine and sine of its declination
-unfoldable pub directionOf : ℕ → ℤ → Direction
-directionOf ra dec = record { «right_ascension» = ra; cos = cosineOf (tickOf dec); sin = sineOf (tickOf dec) }
+-- a source's right ascension as a tick, and the cosine and sine of its declination
+unfoldable pub directionOf : ℤ → ℤ → Direction
+directionOf ra dec = record { «right_ascension» = tickOf ra; cos = cosineOf (tickOf dec); sin = sineOf (tickOf dec) }
 
 -- the delay of a baseline, with the pole at x, y, at an angle
 unfoldable pub delayOf : Baseline → Direction → ℤ → ℤ → ℕ → ℤ

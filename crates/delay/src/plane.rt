@@ -8,7 +8,7 @@ ghost use mathlib.Core.Path.{_≡_};
 ghost use Prim.Native.Nat.{_^_, _≤_};
 ghost use Rattle.whole.specs.Whole.{∣_∣};
 ghost use Rattle.delay.specs.PlaneWave.{shiftOf, shiftedOf, tickOf, directionOf, waveOf, delayOf};
-ghost use Rattle.delay.specs.Bounds.{Short, Shifted, Turned, Pole};
+ghost use Rattle.delay.specs.Bounds.{InTick, Short, Shifted, Turned, Pole};
 
 // Station 2 less station 1, in millimetres.
 pub struct Baseline {
@@ -48,9 +48,9 @@ pub fn shifted(b: Baseline, x: i64, y: i64) -> Baseline
     }
 }
 
-// A signed tick, read modulo 2^32.
+// A tick that may be signed, read modulo 2^32.
 fn tick(a: i64) -> u32
-    requires { ⌜ ∣ a ∣ ≤ 2 ^ 30 ⌝ }
+    requires { ⌜ InTick a ⌝ }
     ensures { λ r. ⌜ r ≡ tickOf a ⌝ }
 {
     if a < 0 {
@@ -61,15 +61,16 @@ fn tick(a: i64) -> u32
 }
 
 // Where a source of this right ascension and declination stands.
-pub fn toward(right_ascension: u32, declination: i64) -> Direction
-    requires { ⌜ ∣ declination ∣ ≤ 2 ^ 30 ⌝ }
-    ensures { λ r. ⌜ r ≡ directionOf «right_ascension» declination ⌝ }
+pub fn toward(right_ascension: i64, declination: i64) -> Direction
+    requires { ⌜ InTick «right_ascension» × InTick declination ⌝ }
+    ensures { λ r. ⌜ (r ≡ directionOf «right_ascension» declination) × Turned r ⌝ }
 {
+    let a = tick(right_ascension);
     let t = tick(declination);
     let cos = cosine(t);
     let sin = sine(t);
     Direction {
-        right_ascension: right_ascension,
+        right_ascension: a,
         cos: cos,
         sin: sin,
     }

@@ -11,21 +11,23 @@ use mir.Val.{Fits}
 use Rattle.whole.specs.Whole.{∣_∣, modZ}
 use Rattle.whole.proofs.Linear.{zarith, add-law, back, ltZ-true, ltZ-false, no-tf}
 use Rattle.whole.proofs.Machine.{M, lit, var, _⊞_, ok, is}
+use Rattle.earth.proofs.Floors.{in-abs}
+use Rattle.delay.specs.Bounds.{InTick}
 use Rattle.delay.specs.PlaneWave.{tickOf}
 use Rattle.delay.proofs.plane.tick.Statement.{statement}
 use Rattle.delay.proofs.plane.tick.Tie as tie
 
 abbrev sum : tie.Start → M
-sum s = var (s .args .a) (2 ^ 30) (s .pre) ⊞ lit (pos 4294967296)
+sum s = var (s .args .a) 5368709119 (in-abs (s .args .a) (s .pre)) ⊞ lit (pos 4294967296)
 
 -- a tick below zero, moved up by a turn, and one that is not
-down : (a : ℤ) → ∣ a ∣ ≤ 2 ^ 30 → ltZ a (pos 0) ≡ true → (T (nonNeg (a +ℤ pos 4294967296)) × Fits w32 (natAbs (a +ℤ pos 4294967296))) × (natAbs (a +ℤ pos 4294967296) ≡ tickOf a)
+down : (a : ℤ) → InTick a → ltZ a (pos 0) ≡ true → (T (nonNeg (a +ℤ pos 4294967296)) × Fits w32 (natAbs (a +ℤ pos 4294967296))) × (natAbs (a +ℤ pos 4294967296) ≡ tickOf a)
 down (pos n) h t = absurd (omega (zarith, ltZ-true (pos n) (pos 0) t))
 down (negsuc n) h t =
     let e : negsuc n +ℤ pos 4294967296 ≡ pos (4294967296 - suc n) = omega (zarith, add-law (negsuc n) (pos 4294967296)) in
     rw e ((tt, record { fits = omega arith }), omega arith)
 
-up : (a : ℤ) → ∣ a ∣ ≤ 2 ^ 30 → ltZ a (pos 0) ≡ false → (T (nonNeg a) × Fits w32 (natAbs a)) × (natAbs a ≡ tickOf a)
+up : (a : ℤ) → InTick a → ltZ a (pos 0) ≡ false → (T (nonNeg a) × Fits w32 (natAbs a)) × (natAbs a ≡ tickOf a)
 up (pos n) h t = ((tt, record { fits = omega arith }), omega arith)
 up (negsuc n) h t = no-tf t
 

@@ -1,7 +1,6 @@
 -- `delay::values::minute_at` meets its contract.
 use mathlib.Core.Path.{_≡_, ap, _∙_}
 use borrow.Author.Needs.{needs}
-use borrow.Author.Tests.{eqb-true}
 use Rattle.whole.proofs.Linear.{back, ret, bits-eq}
 use Rattle.earth.specs.TideInUT1.{tideAt}
 use Rattle.delay.proofs.values.minute_at.Statement.{statement}
@@ -10,7 +9,7 @@ use Rattle.delay.proofs.values.minute_at.Tie as tie
 returns : tie.Need-returns
 returns c =
     let s = c .before .before .before in
-    let e : s .args .kept .n ≡ s .args .n = bits-eq (record { sfits = c .before .struct-told .given .0 .1 }) (s .fits .n) (eqb-true _ _ (c .if1 .taken)) in
+    let e : s .args .kept .n ≡ s .args .n = bits-eq (record { sfits = c .before .struct-told .given .0 .1 }) (s .fits .n) (c .if1 .taken) in
     let t = s .pre .1 .tide-is ∙ ap tideAt e in
     λ i. record { n = e i; tide = t i }
 

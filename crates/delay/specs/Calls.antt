@@ -1,0 +1,129 @@
+-- The three public calls: what each returns and leaves in the room lent, for every input. Document 01, 'Refusal numbers'.
+use Prim.Native.Nat.{ℕ, zero, suc, _+_, min}
+use mathlib.Core.Bool.{Bool, true, false, _&&_, cond}
+use mathlib.Core.List.{List, [], _∷_, _++_, map}
+use lib.ListN.{length, drop}
+use lib.IntN.{ℤ, pos, natAbs, _+ℤ_}
+use lib.Dec.{leb, ltb, eqb}
+use lib.Signed.{leZ}
+use Rattle.earth.specs.declared.time.Epoch.{Epoch}
+use Rattle.earth.specs.declared.NumberAnswer.{NumberAnswer}
+use Rattle.earth.specs.Ranges.{dayOk, msOk}
+use Rattle.earth.specs.Calls.{epochOf}
+use Rattle.session.specs.declared.Pass.{Pass}
+use Rattle.session.specs.Each.{allBelow}
+use Rattle.session.specs.File.{refusalOf, countOf}
+use Rattle.session.specs.Records.{stationBy, sourceBy, placeBy, passOf}
+use Rattle.delay.specs.declared.EarthAnswer.{EarthAnswer}
+use Rattle.delay.specs.declared.values.Earth.{Earth}
+use Rattle.delay.specs.Sessions.{delayBetween, covers, earthIn, sampleEpoch}
+
+-- "The lowest number that applies is given": of two numbers, where 0 is no refusal; and of a list.
+abbrev pub lowerOf : ℕ → ℕ → ℕ
+lowerOf zero b = b
+lowerOf (suc a) zero = suc a
+lowerOf (suc a) (suc b) = min (suc a) (suc b)
+
+abbrev pub lowest : List ℕ → ℕ
+lowest [] = 0
+lowest (n ∷ ns) = lowerOf n (lowest ns)
+
+-- the number n where a condition fails
+abbrev pub unless : Bool → ℕ → ℕ
+unless true n = 0
+unless false n = n
+
+-- ---- orientation(file, day, ms)
+
+unfoldable pub orientationNumber : List ℕ → ℤ → ℤ → ℕ
+orientationNumber s day ms = lowest (refusalOf s ∷ unless (dayOk day && msOk ms) 2 ∷ unless (covers s day) 6 ∷ [])
+
+abbrev pub earthAnswer : Earth → EarthAnswer
+earthAnswer e = record { refusal = pos 0; x = e .x; y = e .y; «ut1_utc» = e .«ut1_utc»; tick = e .tick }
+
+abbrev pub noEarth : ℕ → EarthAnswer
+noEarth n = record { refusal = pos n; x = pos 0; y = pos 0; «ut1_utc» = pos 0; tick = 0 }
+
+unfoldable pub orientationOutcome : List ℕ → ℤ → ℤ → EarthAnswer
+orientationOutcome s day ms =
+    let n = orientationNumber s day ms in
+    cond (eqb n 0) (earthAnswer (earthIn s (epochOf day ms))) (noEarth n)
+
+-- ---- delay(file, station1, station2, source, day, ms)
+
+-- "ids 1-65,535"
+abbrev pub idOk : ℤ → Bool
+idOk z = leZ (pos 1) z && leZ z (pos 65535)
+
+-- a station, or a source, of this id is there
+abbrev pub hasId : List ℕ → ℕ → ℤ → Bool
+hasId s p z = ltb (placeBy s p z) (countOf s p)
+
+abbrev pub allThere : List ℕ → ℤ → ℤ → ℤ → Bool
+allThere s a b r = hasId s 0 a && (hasId s 0 b && hasId s 1 r)
+
+unfoldable pub delayNumber : List ℕ → ℤ → ℤ → ℤ → ℤ → ℤ → ℕ
+delayNumber s a b r day ms =
+    lowest
+    (refusalOf s
+    ∷ unless (idOk a && (idOk b && (idOk r && (dayOk day && msOk ms)))) 2
+    ∷ unless (allThere s a b r) 5
+    ∷ unless (covers s day) 6
+    ∷ [])
+
+-- the delay at an epoch of the stations and the source that these ids name
+unfoldable pub delayIn : List ℕ → ℤ → ℤ → ℤ → Epoch → ℤ
+delayIn s a b r e = delayBetween (stationBy s a) (stationBy s b) (sourceBy s r) (earthIn s e)
+
+abbrev pub number : ℤ → NumberAnswer
+number v = record { refusal = pos 0; value = v }
+
+abbrev pub noNumber : ℕ → NumberAnswer
+noNumber n = record { refusal = pos n; value = pos 0 }
+
+unfoldable pub delayOutcome : List ℕ → ℤ → ℤ → ℤ → ℤ → ℤ → NumberAnswer
+delayOutcome s a b r day ms =
+    let n = delayNumber s a b r day ms in
+    cond (eqb n 0) (number (delayIn s a b r (epochOf day ms))) (noNumber n)
+
+-- ---- samples(file, pass, room)
+
+-- how many samples a pass has
+abbrev pub samplesOf : Pass → ℕ
+samplesOf p = natAbs (p .samples)
+
+-- "6: an epoch, or any sample's epoch, lacks record d or d+1"
+unfoldable pub allCovered : List ℕ → Pass → Bool
+allCovered s p = allBelow (samplesOf p) (λ (i : ℕ). covers s (sampleEpoch p i .day))
+
+unfoldable pub samplesNumber : List ℕ → ℕ → ℕ → ℕ
+samplesNumber s i room =
+    let p = passOf s i in
+    lowest
+    (refusalOf s
+    ∷ unless (ltb i (countOf s 3)) 5
+    ∷ unless (allThere s (p .station1) (p .station2) (p .source)) 5
+    ∷ unless (allCovered s p) 6
+    ∷ unless (leb (samplesOf p) room) 7
+    ∷ [])
+
+-- sample j of pass i
+unfoldable pub sampleIn : List ℕ → Pass → ℕ → ℤ
+sampleIn s p j = delayIn s (p .station1) (p .station2) (p .source) (sampleEpoch p j)
+
+-- the first n values of f
+abbrev pub firstValues : ℕ → (ℕ → ℤ) → List ℤ
+firstValues zero f = []
+firstValues (suc n) f = firstValues n f ++ (f n ∷ [])
+
+unfoldable pub samplesOutcome : List ℕ → ℕ → ℕ → NumberAnswer
+samplesOutcome s i room =
+    let n = samplesNumber s i room in
+    cond (eqb n 0) (number (passOf s i .samples)) (noNumber n)
+
+-- the room after the call: the samples from its start, and the rest as it was; refused, all as it was
+unfoldable pub samplesRoom : List ℕ → ℕ → List ℤ → List ℤ
+samplesRoom s i room =
+    let p = passOf s i in
+    let k = samplesOf p in
+    cond (eqb (samplesNumber s i (length room)) 0) (firstValues k (sampleIn s p) ++ drop k room) room
