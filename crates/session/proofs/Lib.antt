@@ -6,3 +6,5 @@ pub mod Numbers
 pub mod Sound
 pub mod Accepted
 pub mod Fields
+pub mod Answers
+pub mod Blame

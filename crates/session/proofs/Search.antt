@@ -172,3 +172,10 @@ pub all-same : (n : ℕ) (p q : ℕ → Bool) → ((i : ℕ) → i < n → p i �
 unfolding allBelow
 all-same zero p q e = refl
 all-same (suc n) p q e = rw (all-same n p q (λ i l. e i (omega arith)), e n (omega arith))
+
+not-all′ : (n : ℕ) (p : ℕ → Bool) → allBelow n p ≡ false → Dec (firstNot n p < n) → firstNot n p < n
+not-all′ n p h (yes l) = l
+not-all′ n p h (no l) = let k : n ≤ firstNot n p = omega arith in no-way (sym h ∙ all-past n p k)
+
+pub not-all : (n : ℕ) (p : ℕ → Bool) → allBelow n p ≡ false → firstNot n p < n
+not-all n p h = not-all′ n p h (decLt (firstNot n p) n)

@@ -6,7 +6,7 @@ use mathlib.Core.List.{List, [], _∷_}
 use lib.ListN.{length, getD}
 use lib.Dec.{eqb, leb, ltb}
 use native.Mathlib.Omega.{arith}
-use borrow.Author.Tests.{eq-eqb, ne-eqb, leb-true}
+use borrow.Author.Tests.{eq-eqb, ne-eqb, eqb-true, leb-true}
 use Rattle.session.specs.Layouts.{Layout, places, station, source, orientation, pass, noLayout, ofKind, anyOfKind, layoutIn, standsIn}
 use Rattle.session.proofs.Search.{both, no-way}
 
@@ -110,3 +110,28 @@ module _ (k : ℕ) where
   pub in-fourth : standsIn 3 k ≡ true → layoutIn 3 k ≡ pass
   unfolding layoutIn standsIn places pass
   in-fourth h = only pass k (eqb k 4) refl h
+
+-- ---- a kind that may stand somewhere is small
+
+low : Layout → Bool
+low l = leb (l .kind) 255
+
+any-low′ : (l : Layout) (ls : List Layout) (k : ℕ) (b : Bool) → eqb k (l .kind) ≡ b → low l ≡ true → (anyOfKind ls k ≡ true → k ≤ 255) → cond b true (anyOfKind ls k) ≡ true → k ≤ 255
+unfolding low
+any-low′ l ls k true e h r m = omega (arith, eqb-true k (l .kind) e, leb-true (l .kind) 255 h)
+any-low′ l ls k false e h r m = r m
+
+any-low : (ls : List Layout) (k : ℕ) → allOf low ls ≡ true → anyOfKind ls k ≡ true → k ≤ 255
+any-low [] k h m = no-way m
+any-low (l ∷ ls) k h m =
+    let w = both (low l) (allOf low ls) h in
+    any-low′ l ls k (eqb k (l .kind)) refl (w .0) (any-low ls k (w .1)) m
+
+place-low : (rest : List (List Layout)) (p k : ℕ) → allIn low rest ≡ true → anyOfKind (getD rest p []) k ≡ true → k ≤ 255
+place-low [] p k h m = no-way m
+place-low (ls ∷ rest) zero k h m = any-low ls k (both (allOf low ls) (allIn low rest) h .0) m
+place-low (ls ∷ rest) (suc p) k h m = place-low rest p k (both (allOf low ls) (allIn low rest) h .1) m
+
+pub kind-small : (p k : ℕ) → standsIn p k ≡ true → k ≤ 255
+unfolding standsIn places station source orientation pass low
+kind-small p k h = place-low places p k refl h

@@ -1,9 +1,29 @@
 // The session file: read, checked, and its records handed out. Document 01, 'Session file'.
+ghost use mathlib.Core.Path.{_≡_};
+ghost use Rattle.session.specs.Records.{checkOf, stationAt, sourceAt, dayAt, passAt};
+ghost use Rattle.session.specs.Fault.{faultOf};
+
 pub mod contents;
+pub mod faults;
 pub mod layouts;
 pub mod order;
 pub mod ranges;
 pub mod records;
+
+use contents::wrong_word;
+use faults::order_fault;
+use faults::range_fault;
+use order::wrong_order;
+use ranges::wrong_section;
+use records::day_of;
+use records::pass_of;
+use records::source_of;
+use records::station_of;
+use refusal::asked;
+use refusal::count_of;
+use refusal::number;
+use refusal::refusal_of;
+
 pub mod refusal;
 pub mod words;
 
@@ -62,4 +82,132 @@ pub struct Place {
     pub section: i64,
     pub record: i64,
     pub field: i64,
+}
+
+// The refusal and zeros, or 0 and the four counts.
+pub fn check(file: &[u8]) -> Counts
+    ensures { λ r. ⌜ r ≡ checkOf (now (file .entry)) ⌝ }
+{
+    let n = refusal_of(file);
+    if n != 0 {
+        return Counts {
+            refusal: number(n),
+            stations: 0,
+            sources: 0,
+            days: 0,
+            passes: 0,
+        };
+    }
+    Counts {
+        refusal: 0,
+        stations: number(count_of(file, 0)),
+        sources: number(count_of(file, 1)),
+        days: number(count_of(file, 2)),
+        passes: number(count_of(file, 3)),
+    }
+}
+
+// Station index, counted from 0, of a file; 5 beyond the last.
+pub fn station_at(file: &[u8], index: usize) -> Station
+    ensures { λ r. ⌜ r ≡ stationAt (now (file .entry)) index ⌝ }
+{
+    let n = asked(file, 0, index);
+    if n != 0 {
+        return Station {
+            refusal: number(n),
+            id: 0,
+            x: 0,
+            y: 0,
+            z: 0,
+        };
+    }
+    station_of(file, index)
+}
+
+// Source index, counted from 0, of a file; 5 beyond the last.
+pub fn source_at(file: &[u8], index: usize) -> Source
+    ensures { λ r. ⌜ r ≡ sourceAt (now (file .entry)) index ⌝ }
+{
+    let n = asked(file, 1, index);
+    if n != 0 {
+        return Source {
+            refusal: number(n),
+            id: 0,
+            right_ascension: 0,
+            declination: 0,
+        };
+    }
+    source_of(file, index)
+}
+
+// Orientation record index, counted from 0, of a file; 5 beyond the last.
+pub fn day_at(file: &[u8], index: usize) -> Day
+    ensures { λ r. ⌜ r ≡ dayAt (now (file .entry)) index ⌝ }
+{
+    let n = asked(file, 2, index);
+    if n != 0 {
+        return Day {
+            refusal: number(n),
+            mjd: 0,
+            x: 0,
+            y: 0,
+            ut1_utc: 0,
+            tai_utc: 0,
+        };
+    }
+    day_of(file, index)
+}
+
+// Pass index, counted from 0, of a file; 5 beyond the last.
+pub fn pass_at(file: &[u8], index: usize) -> Pass
+    ensures { λ r. ⌜ r ≡ passAt (now (file .entry)) index ⌝ }
+{
+    let n = asked(file, 3, index);
+    if n != 0 {
+        return Pass {
+            refusal: number(n),
+            station1: 0,
+            station2: 0,
+            source: 0,
+            mjd: 0,
+            ms: 0,
+            step: 0,
+            samples: 0,
+            tolerance: 0,
+        };
+    }
+    pass_of(file, index)
+}
+
+// Where the number that `check` gives arises first; zeros for a file that is accepted.
+pub fn fault(file: &[u8]) -> Place
+    ensures { λ r. ⌜ r ≡ faultOf (now (file .entry)) ⌝ }
+{
+    let w = wrong_word(file);
+    if w < 14 {
+        return Place {
+            number: 1,
+            section: 0,
+            record: 0,
+            field: number(w),
+        };
+    }
+    let p = wrong_section(file);
+    if p < 4 {
+        return range_fault(file, p);
+    }
+    let q = wrong_order(file, 1);
+    if q < 4 {
+        return order_fault(file, q, 1, 3);
+    }
+    let r = wrong_order(file, 2);
+    if r < 4 {
+        return order_fault(file, r, 2, 4);
+    }
+    Place {
+        number: 0,
+        section: 0,
+        record: 0,
+        field: 0,
+    }
 }

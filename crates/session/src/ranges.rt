@@ -29,7 +29,7 @@ fn number_inside(s: &[u8], at: usize, low: &[i64; 8], high: &[i64; 8], k: usize)
 }
 
 // The first of size numbers from byte at on that is out of its range, or size.
-fn first_outside(s: &[u8], at: usize, size: usize, low: &[i64; 8], high: &[i64; 8]) -> usize
+pub fn first_outside(s: &[u8], at: usize, size: usize, low: &[i64; 8], high: &[i64; 8]) -> usize
     requires { ⌜ (at + 8 * size ≤ length (now s)) × (size ≤ 8) ⌝ }
     ensures { λ r. ⌜ r ≡ firstNot size (insideBy (now (s .entry)) at (now (low .entry)) (now (high .entry))) ⌝ }
 {

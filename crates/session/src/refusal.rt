@@ -5,6 +5,7 @@ ghost use lib.ListN.{length};
 ghost use lib.IntN.{pos};
 ghost use Rattle.session.specs.Words.{numberAt};
 ghost use Rattle.session.specs.File.{refusalOf, countOf, sizeOf, recordByte};
+ghost use Rattle.session.specs.Records.{askedOf};
 use crate::contents::layout_of;
 use crate::contents::wrong_word;
 use crate::order::wrong_order;
@@ -62,4 +63,19 @@ pub fn field_at(s: &[u8], at: usize, k: usize) -> i64
     ensures { λ r. ⌜ r ≡ numberAt (now (s .entry)) (at + 8 * k) ⌝ }
 {
     number_at(s, at + 8 * k)
+}
+
+// The file's own refusal; then 5 where place p has no record i.
+pub fn asked(s: &[u8], p: usize, i: usize) -> usize
+    requires { ⌜ p < 4 ⌝ }
+    ensures { λ r. ⌜ (r ≡ askedOf (now (s .entry)) p i) × (r ≤ 5) ⌝ }
+{
+    let n = refusal_of(s);
+    if n != 0 {
+        return n;
+    }
+    if i < count_of(s, p) {
+        return 0;
+    }
+    5
 }

@@ -7,9 +7,6 @@ use Rattle.session.specs.File.{orderRight}
 use Rattle.session.proofs.Search.{first-zero, first-next, first-hit, failed, passed}
 use Rattle.session.proofs.order.wrong_order.Statement.{statement}
 use Rattle.session.proofs.order.wrong_order.Tie as tie
-use Rattle.session.proofs.order.wrong_order.Reads as reads
-use Rattle.session.proofs.order.wrong_order.Lts as lts
-use Rattle.session.proofs.order.order_right.Reads as order-right-reads
 
 abbrev Inv-loop : tie.InvT-loop
 Inv-loop s o p₀ p = (p ≤ 4) × (firstNot p (orderRight s o) ≡ p)

@@ -11,11 +11,6 @@ use Rattle.session.proofs.Sound.{table-long, counts-one, counts-most, s
 use borrow.Author.Needs.{needs}
 use Rattle.session.proofs.order.wrong_step.Statement.{statement}
 use Rattle.session.proofs.order.wrong_step.Tie as tie
-use Rattle.session.proofs.order.wrong_step.Reads as reads
-use Rattle.session.proofs.order.wrong_step.Lts as lts
-use Rattle.session.proofs.contents.layout_of.Reads as layout-of-reads
-use Rattle.session.proofs.order.first_step.Reads as first-step-reads
-use Rattle.session.proofs.words.word_at.Reads as word-at-reads
 
 layout-of-requires : tie.Need-layout-of-requires
 layout-of-requires c κs =

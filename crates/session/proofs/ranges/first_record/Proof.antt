@@ -9,9 +9,6 @@ use Rattle.session.specs.Code.{recordBy}
 use Rattle.session.proofs.Search.{first-zero, first-next, first-hit, some-first, all-past}
 use Rattle.session.proofs.ranges.first_record.Statement.{statement}
 use Rattle.session.proofs.ranges.first_record.Tie as tie
-use Rattle.session.proofs.ranges.first_record.Reads as reads
-use Rattle.session.proofs.ranges.first_record.Lts as lts
-use Rattle.session.proofs.ranges.first_outside.Reads as first-outside-reads
 
 abbrev Inv-loop : tie.InvT-loop
 Inv-loop s at n size low high i₀ i = (i ≤ n) × (firstNot i (recordBy s at size low high) ≡ i)

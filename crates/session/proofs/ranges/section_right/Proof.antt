@@ -7,10 +7,6 @@ use Rattle.session.proofs.Sound.{table-long}
 use borrow.Author.Needs.{needs}
 use Rattle.session.proofs.ranges.section_right.Statement.{statement}
 use Rattle.session.proofs.ranges.section_right.Tie as tie
-use Rattle.session.proofs.ranges.section_right.Reads as reads
-use Rattle.session.proofs.ranges.section_right.Lts as lts
-use Rattle.session.proofs.ranges.wrong_record.Reads as wrong-record-reads
-use Rattle.session.proofs.words.word_at.Reads as word-at-reads
 
 wrong-record-requires : tie.Need-wrong-record-requires
 wrong-record-requires c κs = search needs

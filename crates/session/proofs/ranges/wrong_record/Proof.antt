@@ -11,11 +11,6 @@ use Rattle.session.proofs.Sound.{table-long, body-fits, size-most, reco
 use borrow.Author.Needs.{needs}
 use Rattle.session.proofs.ranges.wrong_record.Statement.{statement}
 use Rattle.session.proofs.ranges.wrong_record.Tie as tie
-use Rattle.session.proofs.ranges.wrong_record.Reads as reads
-use Rattle.session.proofs.ranges.wrong_record.Lts as lts
-use Rattle.session.proofs.contents.layout_of.Reads as layout-of-reads
-use Rattle.session.proofs.ranges.first_record.Reads as first-record-reads
-use Rattle.session.proofs.words.word_at.Reads as word-at-reads
 
 layout-of-requires : tie.Need-layout-of-requires
 layout-of-requires c κs =

@@ -7,9 +7,6 @@ use Rattle.session.specs.File.{sectionRight}
 use Rattle.session.proofs.Search.{first-zero, first-next, first-hit, failed, passed}
 use Rattle.session.proofs.ranges.wrong_section.Statement.{statement}
 use Rattle.session.proofs.ranges.wrong_section.Tie as tie
-use Rattle.session.proofs.ranges.wrong_section.Reads as reads
-use Rattle.session.proofs.ranges.wrong_section.Lts as lts
-use Rattle.session.proofs.ranges.section_right.Reads as section-right-reads
 
 abbrev Inv-loop : tie.InvT-loop
 Inv-loop s p₀ p = (p ≤ 4) × (firstNot p (sectionRight s) ≡ p)

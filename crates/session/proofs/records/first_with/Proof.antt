@@ -13,9 +13,6 @@ use Rattle.session.specs.Code.{otherBy}
 use Rattle.session.proofs.Search.{first-zero, first-next, first-hit}
 use Rattle.session.proofs.records.first_with.Statement.{statement}
 use Rattle.session.proofs.records.first_with.Tie as tie
-use Rattle.session.proofs.records.first_with.Reads as reads
-use Rattle.session.proofs.records.first_with.Lts as lts
-use Rattle.session.proofs.records.number_is.Reads as number-is-reads
 
 abbrev Inv-loop : tie.InvT-loop
 Inv-loop s at n size z i₀ i = (i ≤ n) × (firstNot i (otherBy s at size (toZ w64 z)) ≡ i)

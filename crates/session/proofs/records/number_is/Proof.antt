@@ -5,10 +5,6 @@ use mir.Facts.{toZ-ofZ}
 use borrow.Author.Needs.{needs}
 use Rattle.session.proofs.records.number_is.Statement.{statement}
 use Rattle.session.proofs.records.number_is.Tie as tie
-use Rattle.session.proofs.records.number_is.Reads as reads
-use Rattle.session.proofs.records.number_is.Lts as lts
-use Rattle.session.proofs.ranges.inside.Reads as inside-reads
-use Rattle.session.proofs.words.number_at.Reads as number-at-reads
 
 number-at-requires : tie.Need-number-at-requires
 number-at-requires c κs = search needs

@@ -12,11 +12,6 @@ use Rattle.session.proofs.Fields.{places-same}
 use borrow.Author.Needs.{needs}
 use Rattle.session.proofs.records.place_by.Statement.{statement}
 use Rattle.session.proofs.records.place_by.Tie as tie
-use Rattle.session.proofs.records.place_by.Reads as reads
-use Rattle.session.proofs.records.place_by.Lts as lts
-use Rattle.session.proofs.contents.layout_of.Reads as layout-of-reads
-use Rattle.session.proofs.records.first_with.Reads as first-with-reads
-use Rattle.session.proofs.words.word_at.Reads as word-at-reads
 
 layout-of-requires : tie.Need-layout-of-requires
 layout-of-requires c κs =

@@ -5,11 +5,6 @@ use Rattle.session.specs.Records.{placeBy, sourceOf, sourceBy}
 use borrow.Author.Needs.{needs}
 use Rattle.session.proofs.records.source_by.Statement.{statement}
 use Rattle.session.proofs.records.source_by.Tie as tie
-use Rattle.session.proofs.records.source_by.Reads as reads
-use Rattle.session.proofs.records.source_by.Lts as lts
-use Rattle.session.proofs.records.place_by.Reads as place-by-reads
-use Rattle.session.proofs.records.source_of.Reads as source-of-reads
-use Rattle.session.proofs.refusal.count_of.Reads as count-of-reads
 
 place-by-requires : tie.Need-place-by-requires
 place-by-requires c κs = search needs

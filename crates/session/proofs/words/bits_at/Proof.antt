@@ -2,9 +2,6 @@ use borrow.Author.Needs.{needs}
 use Rattle.session.specs.Words.{bitsAt}
 use Rattle.session.proofs.words.bits_at.Statement.{statement}
 use Rattle.session.proofs.words.bits_at.Tie as tie
-use Rattle.session.proofs.words.bits_at.Reads as reads
-use Rattle.session.proofs.words.bits_at.Lts as lts
-use Rattle.session.proofs.words.quad_at.Reads as quad-at-reads
 
 quad-at-requires : tie.Need-quad-at-requires
 quad-at-requires c κs = search needs

@@ -5,10 +5,6 @@ use mir.Syntax.{w64}
 use mir.Val.{toZ}
 use Rattle.session.proofs.words.number_at.Statement.{statement}
 use Rattle.session.proofs.words.number_at.Tie as tie
-use Rattle.session.proofs.words.number_at.Reads as reads
-use Rattle.session.proofs.words.number_at.Lts as lts
-use Rattle.session.proofs.words.bits_at.Reads as bits-at-reads
-use Rattle.session.proofs.words.signed.Reads as signed-reads
 
 bits-at-requires : tie.Need-bits-at-requires
 bits-at-requires c κs = search needs

@@ -2,8 +2,6 @@ use borrow.Author.Needs.{needs}
 use Rattle.session.proofs.Bits.{high-fits, high-is}
 use Rattle.session.proofs.words.signed.Statement.{statement}
 use Rattle.session.proofs.words.signed.Tie as tie
-use Rattle.session.proofs.words.signed.Reads as reads
-use Rattle.session.proofs.words.signed.Lts as lts
 
 cast-result : tie.Need-cast-result
 cast-result c = search needs

@@ -1,0 +1,79 @@
+use mathlib.Core.Path.{_≡_, refl, sym, ap, _∙_}
+use native.Mathlib.Omega.{arith}
+use Prim.Native.Nat.{ℕ}
+use lib.IntN.{pos}
+use Rattle.session.specs.Fault.{rangeFault, orderFault}
+use Rattle.session.proofs.Accepted.{contents-past, no-contents, is-one, is-two, is-three, is-four, is-none}
+use Rattle.session.proofs.Answers.{number-back}
+use Rattle.session.proofs.Blame.{fault-none, fault-word, fault-range, fault-ids, fault-days, section-wrong}
+use borrow.Author.Needs.{needs}
+use Rattle.session.proofs.fault.Statement.{statement}
+use Rattle.session.proofs.fault.Tie as tie
+
+wrong-word-requires : tie.Need-wrong-word-requires
+wrong-word-requires c κs = search needs
+
+number-requires : tie.Need-number-requires
+number-requires c κs = search needs
+
+returns : tie.Need-returns
+returns c =
+    let w = c .before .before .wrong-word .ensures in
+    let g = number-back (c .number .result) _ _ (c .number .ok) (c .number .ensures) w in
+    (λ j. record { number = pos 1; section = pos 0; «record» = pos 0; field = g j }) ∙ sym (fault-word _ (is-one _ (no-contents _ (rw w at (c .before .if1 .taken)))))
+
+wrong-section-requires : tie.Need-wrong-section-requires
+wrong-section-requires c κs = (contents-past _ _ (c .before .wrong-word .ensures) (c .if1 .left))
+
+range-fault-requires : tie.Need-range-fault-requires
+range-fault-requires c κs =
+    let e = c .before .wrong-section .ensures in
+    ((contents-past _ _ (c .before .before .before .wrong-word .ensures) (c .before .before .if1 .left)), search needs, rw e (section-wrong _ (rw e at (c .if2 .taken))))
+
+returns-2 : tie.Need-returns-2
+returns-2 c =
+    let e = c .before .before .wrong-section .ensures in
+    c .range-fault .ensures ∙ ap (rangeFault _) e ∙ sym (fault-range _ (is-two _ (contents-past _ _ (c .before .before .before .before .wrong-word .ensures) (c .before .before .before .if1 .left)) (rw e at (c .before .if2 .taken))))
+
+wrong-order-requires : tie.Need-wrong-order-requires
+wrong-order-requires c κs = (contents-past _ _ (c .before .before .before .wrong-word .ensures) (c .before .before .if1 .left))
+
+order-fault-requires : tie.Need-order-fault-requires
+order-fault-requires c κs = ((contents-past _ _ (c .before .before .before .before .before .wrong-word .ensures) (c .before .before .before .before .if1 .left)), search needs, omega arith)
+
+returns-3 : tie.Need-returns-3
+returns-3 c =
+    let e = c .before .before .wrong-order .ensures in
+    c .order-fault .ensures ∙ ap (λ (p : ℕ). orderFault (c .before .before .before .before .before .before .before .before .args .file .now) p 1 3) e ∙ sym (fault-ids _ (is-three _ (contents-past _ _ (c .before .before .before .before .before .before .wrong-word .ensures) (c .before .before .before .before .before .if1 .left)) (rw (c .before .before .before .before .wrong-section .ensures) at (c .before .before .before .if2 .left)) (rw e at (c .before .if3 .taken))))
+
+wrong-order-requires-2 : tie.Need-wrong-order-requires-2
+wrong-order-requires-2 c κs = (contents-past _ _ (c .before .before .before .before .before .wrong-word .ensures) (c .before .before .before .before .if1 .left))
+
+order-fault-requires-2 : tie.Need-order-fault-requires-2
+order-fault-requires-2 c κs = ((contents-past _ _ (c .before .before .before .before .before .before .before .wrong-word .ensures) (c .before .before .before .before .before .before .if1 .left)), search needs, omega arith)
+
+returns-4 : tie.Need-returns-4
+returns-4 c =
+    let e = c .before .before .wrong-order2 .ensures in
+    c .order-fault2 .ensures ∙ ap (λ (p : ℕ). orderFault (c .before .before .before .before .before .before .before .before .before .before .args .file .now) p 2 4) e ∙ sym (fault-days _ (is-four _ (contents-past _ _ (c .before .before .before .before .before .before .before .before .wrong-word .ensures) (c .before .before .before .before .before .before .before .if1 .left)) (rw (c .before .before .before .before .before .before .wrong-section .ensures) at (c .before .before .before .before .before .if2 .left)) (rw (c .before .before .before .before .wrong-order .ensures) at (c .before .before .before .if3 .left)) (rw e at (c .before .if4 .taken))))
+
+returns-5 : tie.Need-returns-5
+returns-5 c = sym (fault-none _ (is-none _ (contents-past _ _ (c .before .before .before .before .before .before .before .wrong-word .ensures) (c .before .before .before .before .before .before .if1 .left)) (rw (c .before .before .before .before .before .wrong-section .ensures) at (c .before .before .before .before .if2 .left)) (rw (c .before .before .before .wrong-order .ensures) at (c .before .before .if3 .left)) (rw (c .before .wrong-order2 .ensures) at (c .if4 .left))))
+
+pub fault-spec : {M : Type 1} → statement M
+fault-spec =
+    tie.close
+    (tie.spec
+    wrong-word-requires
+    number-requires
+    returns
+    wrong-section-requires
+    range-fault-requires
+    returns-2
+    wrong-order-requires
+    order-fault-requires
+    returns-3
+    wrong-order-requires-2
+    order-fault-requires-2
+    returns-4
+    returns-5)

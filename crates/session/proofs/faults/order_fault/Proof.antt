@@ -1,0 +1,54 @@
+use mathlib.Core.Path.{_≡_, refl, ap, sym, _∙_}
+use native.Mathlib.Omega.{arith}
+use Prim.Native.Nat.{ℕ, _+_, _-_}
+use lib.IntN.{pos}
+use Rattle.session.specs.File.{countOf, stepRight}
+use Rattle.session.specs.Fault.{orderFault}
+use Rattle.whole.proofs.Linear.{ret}
+use Rattle.session.proofs.Search.{first-most}
+use Rattle.session.proofs.Sound.{counts-most}
+use Rattle.session.proofs.Answers.{number-back}
+use borrow.Author.Needs.{needs}
+use Rattle.session.proofs.faults.order_fault.Statement.{statement}
+use Rattle.session.proofs.faults.order_fault.Tie as tie
+
+wrong-step-requires : tie.Need-wrong-step-requires
+wrong-step-requires c κs = search needs
+
+number-requires : tie.Need-number-requires
+number-requires c κs = search needs
+
+kind-number-requires : tie.Need-kind-number-requires
+kind-number-requires c κs = search needs
+
+add-number : tie.Need-add-number
+add-number c =
+    let st = c .before .before .before .before in
+    let s = st .args .s .now in
+    omega (arith, c .before .before .wrong-step .ensures, first-most (countOf s (st .args .p) - 1) (stepRight s (st .args .o) (st .args .p)), counts-most s (st .pre .0) (st .args .p) (st .pre .1))
+
+number-requires-2 : tie.Need-number-requires-2
+number-requires-2 c κs =
+    let st = c .before .before .before .before in
+    let s = st .args .s .now in
+    omega (arith, c .before .before .wrong-step .ensures, first-most (countOf s (st .args .p) - 1) (stepRight s (st .args .o) (st .args .p)), counts-most s (st .pre .0) (st .args .p) (st .pre .1))
+
+returns : tie.Need-returns
+unfolding orderFault
+returns c =
+    let i = ap (λ (n : ℕ). n + 1) (c .before .before .before .wrong-step .ensures) in
+    let a = number-back (c .before .before .number .result) _ _ (c .before .before .number .ok) (c .before .before .number .ensures) refl in
+    let b = ret (c .before .kind-number .result) (c .before .kind-number .ok) ∙ c .before .kind-number .ensures in
+    let d = number-back (c .number2 .result) _ _ (c .number2 .ok) (c .number2 .ensures) i in
+    λ j. record { number = a j; section = b j; «record» = d j; field = pos 0 }
+
+pub order-fault-spec : {M : Type 1} → statement M
+order-fault-spec =
+    tie.close
+    (tie.spec
+    wrong-step-requires
+    number-requires
+    kind-number-requires
+    add-number
+    number-requires-2
+    returns)
