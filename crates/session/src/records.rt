@@ -167,3 +167,22 @@ pub fn source_by(s: &[u8], id: i64) -> Source
         declination: 0,
     }
 }
+
+// The record of a day, or refusal 6.
+pub fn day_by(s: &[u8], day: i64) -> Day
+    requires { ⌜ refusalOf (now s) ≡ 0 ⌝ }
+    ensures { λ r. ⌜ r ≡ dayBy (now (s .entry)) day ⌝ }
+{
+    let i = place_by(s, 2, day);
+    if i < count_of(s, 2) {
+        return day_of(s, i);
+    }
+    Day {
+        refusal: 6,
+        mjd: 0,
+        x: 0,
+        y: 0,
+        ut1_utc: 0,
+        tai_utc: 0,
+    }
+}
