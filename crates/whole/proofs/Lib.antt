@@ -1,8 +1,8 @@
-pub mod Bias
 pub mod Far
 pub mod Linear
 pub mod Machine
 pub mod Products
 pub mod Quote
 pub mod Rounding
+pub mod Shift
 pub mod Tests

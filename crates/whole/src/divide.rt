@@ -28,7 +28,11 @@ pub fn round_div(a: i64, b: u64) -> i64
     requires { ⌜ (∣ a ∣ < 2 ^ 63) × (0 < b) × (b ≤ 2 ^ 63) ⌝ }
     ensures { λ r. ⌜ r ≡ R a b ⌝ }
 {
-    with_sign(a < 0, nearest(size(a), b))
+    if a < 0 {
+        with_sign(true, nearest(size(a), b))
+    } else {
+        with_sign(false, nearest(size(a), b))
+    }
 }
 
 // v0 + R((v1 - v0)·u / 86,400,000).

@@ -1,5 +1,4 @@
 // The products of document 01 that pass 64 bits, each split so that every step fits a word.
-use crate::divide::floor_div;
 use crate::sign::in_range;
 use crate::sign::size;
 use crate::sign::with_sign;
@@ -69,20 +68,12 @@ pub fn rotation_ticks(e: u64) -> u32
     (q * 32768 + r * 32768 / 762939453125) as u32
 }
 
-// x moved up by 2^62, a multiple of 2^15, so that it is positive and its parts at 2^15 can be taken unsigned.
-fn biased(x: i64) -> u64
-    requires { ⌜ ∣ x ∣ ≤ 2 ^ 61 ⌝ }
-    ensures { λ r. ⌜ (pos r ≡ x +ℤ pos 4611686018427387904) × (r < 2 ^ 63) ⌝ }
-{
-    (x + 4611686018427387904) as u64
-}
-
-// floor(x / 2^15).
+// floor(x / 2^15): a signed number is shifted down.
 fn upper(x: i64) -> i64
     requires { ⌜ ∣ x ∣ ≤ 2 ^ 61 ⌝ }
     ensures { λ r. ⌜ r ≡ floorZ x 32768 ⌝ }
 {
-    (biased(x) / 32768) as i64 - 140737488355328
+    x >> 15
 }
 
 // x modulo 2^15, at least 0.
@@ -90,7 +81,7 @@ fn lower(x: i64) -> i64
     requires { ⌜ ∣ x ∣ ≤ 2 ^ 61 ⌝ }
     ensures { λ r. ⌜ r ≡ pos (modZ x 32768) ⌝ }
 {
-    (biased(x) % 32768) as i64
+    x - upper(x) * 32768
 }
 
 // Half of 2^30, less 1 for a negative number.
@@ -133,6 +124,13 @@ pub fn light_time(g: i64) -> i64
     )
 }
 
+// floor(x / 1,024).
+fn thousandth(x: i64) -> i64
+    ensures { λ r. ⌜ r ≡ floorZ x 1024 ⌝ }
+{
+    x >> 10
+}
+
 // Whether |a + p - 65,536·s| is at most k.
 fn within_by(a: i64, p: i64, s: i64, k: i64) -> bool
     requires { ⌜ (∣ a ∣ ≤ 9000000000000000) × (∣ p ∣ ≤ 2 ^ 56) × (∣ s ∣ ≤ 131000000000) ⌝ }
@@ -147,7 +145,7 @@ pub fn within(a: i64, r: i64, j: i64, s: i64, k: i64) -> bool
     requires { ⌜ (∣ s ∣ ≤ 131000000000) × (∣ k ∣ ≤ 9000000000000000) ⌝ }
     ensures { λ t. ⌜ t ≡ leb ∣ a +ℤ r *ℤ j -ℤ pos 65536 *ℤ s ∣ ∣ k ∣ ⌝ }
 {
-    let high = floor_div(r, 1024) * j;
+    let high = thousandth(r) * j;
     if !in_range(high, -35184372088832, 35184372088832) {
         return false;
     }

@@ -1,28 +1,66 @@
 -- `whole::divide::round_div` meets its contract.
 use mathlib.Core.Path.{_≡_, _∙_}
+use mathlib.Core.Bool.{Bool, true, false}
+use Prim.Native.Nat.{ℕ}
 use borrow.Author.Needs.{needs}
 use native.Mathlib.Omega.{arith}
+use lib.IntN.{ℤ, pos}
+use lib.Signed.{ltZ}
+use Rattle.whole.specs.Whole.{∣_∣, near, signOf, R}
 use Rattle.whole.proofs.Linear.{known, back, ret}
 use Rattle.whole.proofs.Rounding.{near-le, R-split}
 use Rattle.whole.proofs.divide.round_div.Statement.{statement}
 use Rattle.whole.proofs.divide.round_div.Tie as tie
 
+-- R of a number whose sign is tested
+R-of : (t : Bool) (z : ℤ) (b : ℕ) → ltZ z (pos 0) ≡ t → signOf t (near ∣ z ∣ b) ≡ R z b
+R-of t z b e = rw e at (R-split z b)
+
 size-requires : tie.Need-size-requires
 size-requires c κs = search needs
 
 nearest-requires : tie.Need-nearest-requires
-nearest-requires c κs = omega (arith, known (c .before .fits .a))
+nearest-requires c κs = omega (arith, known (c .before .before .fits .a))
 
 with-sign-requires : tie.Need-with-sign-requires
 with-sign-requires c κs =
-    let s = c .before .before in
+    let s = c .before .before .before in
     omega (arith, known (s .fits .a), near-le (c .before .size .result) (s .args .b) (s .pre .1))
+
+size-requires-2 : tie.Need-size-requires-2
+size-requires-2 c κs = search needs
+
+nearest-requires-2 : tie.Need-nearest-requires-2
+nearest-requires-2 c κs = omega (arith, known (c .before .before .fits .a))
+
+with-sign-requires-2 : tie.Need-with-sign-requires-2
+with-sign-requires-2 c κs =
+    let s = c .before .before .before in
+    omega (arith, known (s .fits .a), near-le (c .before .size2 .result) (s .args .b) (s .pre .1))
 
 returns : tie.Need-returns
 returns c =
-    let s = c .before .before .before in
+    let t = c .before .before .before in
+    let s = t .before in
     let e = simp (c .before .nearest .ensures, c .before .before .size .ensures, back (s .fits .a)) at (c .with-sign .ensures) in
-    ret (c .with-sign .result) (c .with-sign .ok) ∙ e ∙ R-split (s .args .a) (s .args .b)
+    ret (c .with-sign .result) (c .with-sign .ok) ∙ e ∙ R-of true (s .args .a) (s .args .b) (rw (back (s .fits .a)) at (t .if1 .taken))
+
+returns-2 : tie.Need-returns-2
+returns-2 c =
+    let t = c .before .before .before in
+    let s = t .before in
+    let e = simp (c .before .nearest2 .ensures, c .before .before .size2 .ensures, back (s .fits .a)) at (c .with-sign2 .ensures) in
+    ret (c .with-sign2 .result) (c .with-sign2 .ok) ∙ e ∙ R-of false (s .args .a) (s .args .b) (rw (back (s .fits .a)) at (t .if1 .left))
 
 pub round-div-spec : {M : Type 1} → statement M
-round-div-spec = tie.close (tie.spec size-requires nearest-requires with-sign-requires returns)
+round-div-spec =
+    tie.close
+    (tie.spec
+    size-requires
+    nearest-requires
+    with-sign-requires
+    size-requires-2
+    nearest-requires-2
+    with-sign-requires-2
+    returns
+    returns-2)
