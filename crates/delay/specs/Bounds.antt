@@ -3,8 +3,11 @@ use Prim.Native.Nat.{ℕ, _^_, _≤_}
 use lib.IntN.{ℤ, pos, negℤ}
 use Rattle.whole.proofs.Linear.{In}
 use Rattle.whole.specs.Whole.{∣_∣}
-use Rattle.earth.specs.Ranges.{InTai}
+use Rattle.earth.specs.Ranges.{InDay, InMs, InTai}
+use Rattle.session.specs.declared.Station.{Station}
+use Rattle.session.specs.declared.Source.{Source}
 use Rattle.session.specs.declared.Day.{Day}
+use Rattle.session.specs.declared.Pass.{Pass}
 use Rattle.delay.specs.DayValues.{ut1rOf}
 use Rattle.delay.specs.declared.plane.Baseline.{Baseline}
 use Rattle.delay.specs.declared.plane.Direction.{Direction}
@@ -41,3 +44,21 @@ pub record InRecord (r : Day) : Type 0 where
   pub y-size : ∣ r .y ∣ ≤ 1000000
   pub ut1-size : ∣ ut1rOf r ∣ ≤ 902723000
   pub tai : InTai (r .«tai_utc»)
+
+-- a station's record
+pub record InStation (a : Station) : Type 0 where
+  pub x-size : ∣ a .x ∣ ≤ 6400000000
+  pub y-size : ∣ a .y ∣ ≤ 6400000000
+  pub z-size : ∣ a .z ∣ ≤ 6400000000
+
+-- a source's record
+pub record InSource (r : Source) : Type 0 where
+  pub ascension : InTick (r .«right_ascension»)
+  pub declined : InTick (r .declination)
+
+-- a pass's record
+pub record InPass (p : Pass) : Type 0 where
+  pub day : InDay (p .mjd)
+  pub ms : InMs (p .ms)
+  pub step : In (pos 1) (pos 3600000) (p .step)
+  pub samples : In (pos 1) (pos 4096) (p .samples)
