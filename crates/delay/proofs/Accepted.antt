@@ -1,8 +1,8 @@
 -- What the delays lean on of a file that is accepted: each field that they read is in its range. Assumes nothing.
 use mathlib.Core.Path.{_≡_, refl, subst}
-use mathlib.Core.Bool.{Bool, true, false, not, cond}
+use mathlib.Core.Bool.{Bool, true, false, not, _&&_, cond}
 use mathlib.Core.List.{List, [], _∷_}
-use Prim.Native.Nat.{ℕ, zero, suc, _+_, _≤_, _<_}
+use Prim.Native.Nat.{ℕ, zero, suc, _+_, _*_, _≤_, _<_}
 use native.Mathlib.Omega.{arith}
 use borrow.Author.Tests.{ltb-true, eqb-true}
 use native.Mathlib.Nat.{le-trans}
@@ -18,7 +18,7 @@ use Rattle.session.specs.declared.Source.{Source}
 use Rattle.session.specs.declared.Day.{Day}
 use Rattle.session.specs.Each.{allBelow}
 use Rattle.session.specs.Layouts.{Layout, station, source, orientation, pass, places, layoutIn, standsIn, noLayout}
-use Rattle.session.specs.File.{refusalOf, contentsRight, sectionsRight, kindsRight, kindRight, rangesRight, sectionRight, recordRight, fieldRight, present, kindOf, countOf, layoutOf, rangeOf, inside, fieldAt, eqZ}
+use Rattle.session.specs.File.{refusalOf, contentsRight, sectionsRight, kindsRight, kindRight, countsRight, offsetsRight, lengthRight, idsRight, daysRight, rangesRight, sectionRight, recordRight, fieldRight, present, kindOf, countOf, layoutOf, rangeOf, inside, fieldAt, eqZ}
 use Rattle.session.specs.Records.{stationOf, sourceOf, dayOf, passOf, placeBy, stationBy, sourceBy, dayBy}
 use Rattle.session.proofs.Search.{below-each, both, first-fails}
 use Rattle.session.proofs.Numbers.{eqZ-true}
@@ -52,15 +52,17 @@ found s z h = eqZ-true _ _ (not-not _ (first-fails (countOf s 2) (λ (i : ℕ). 
 module _ (s : List ℕ) (accepted : refusalOf s ≡ 0) where
   parts : (contentsRight s ≡ true) × (rangesRight s ≡ true)
   unfolding refusalOf
-  parts = first-of _ _ _ _ accepted
+  parts = first-of (contentsRight s) (rangesRight s) (idsRight s) (daysRight s) accepted
 
   kind-right : (p : ℕ) → p < 4 → kindRight s p ≡ true
   unfolding contentsRight
-  kind-right p h = below-each 4 p (kindRight s) h (both _ _ (both _ _ (parts .0) .1) .0)
+  kind-right p h =
+      let rest = countsRight s && (offsetsRight s && lengthRight s) in
+      below-each 4 p (kindRight s) h (both (kindsRight s) rest (both (sectionsRight s) (kindsRight s && rest) (parts .0) .1) .0)
 
   stands : (p : ℕ) → p < 4 → standsIn p (kindOf s p) ≡ true
   unfolding kindRight
-  stands p h = both _ _ (kind-right p h) .1
+  stands p h = both (present s (3 * p + 1)) (standsIn p (kindOf s p)) (kind-right p h) .1
 
   field-right : (p i k : ℕ) (l : Layout) → p < 4 → i < countOf s p → layoutOf s p ≡ l → k < length (l .fields) → inside (rangeOf l k) (fieldAt s p i k) ≡ true
   unfolding rangesRight sectionRight recordRight fieldRight
@@ -96,20 +98,21 @@ module _ (s : List ℕ) (accepted : refusalOf s ≡ 0) where
   pub source-in : (i : ℕ) → i < countOf s 1 → InSource (sourceOf s i)
   unfolding source sourceOf
   source-in i h =
-      let a = in-yes _ _ _ (field-right 1 i 1 source (omega arith) h layout-1 (omega arith)) in
-      let d = in-yes _ _ _ (field-right 1 i 2 source (omega arith) h layout-1 (omega arith)) in
+      let a : In (pos 0) (pos 4294967295) (fieldAt s 1 i 1) = in-yes _ _ _ (field-right 1 i 1 source (omega arith) h layout-1 (omega arith)) in
+      let d : In (negℤ (pos 1073741824)) (pos 1073741824) (fieldAt s 1 i 2) = in-yes _ _ _ (field-right 1 i 2 source (omega arith) h layout-1 (omega arith)) in
       record {
-        ascension = record { n-lo = omega arith; p-lo = omega arith; p-hi = a .p-hi; n-hi = omega arith };
-        declined = record { n-lo = d .n-lo; p-lo = omega arith; p-hi = omega arith; n-hi = omega arith };
+        ascension = record { n-lo = omega (arith, a .n-lo); p-lo = omega arith; p-hi = a .p-hi; n-hi = omega arith };
+        declined = record { n-lo = d .n-lo; p-lo = omega arith; p-hi = omega (arith, d .p-hi); n-hi = omega arith };
       }
 
   pub day-in : (i : ℕ) → i < countOf s 2 → InRecord (dayOf s i)
   unfolding orientation dayOf ut1rOf
   day-in i h =
+      let u : ∣ fieldAt s 2 i 3 ∣ ≤ 900000000 = size-in (fieldAt s 2 i 3) (in-yes _ _ _ (field-right 2 i 3 orientation (omega arith) h layout-2 (omega arith))) in
       record {
         x-size = size-in (fieldAt s 2 i 1) (in-yes _ _ _ (field-right 2 i 1 orientation (omega arith) h layout-2 (omega arith)));
         y-size = size-in (fieldAt s 2 i 2) (in-yes _ _ _ (field-right 2 i 2 orientation (omega arith) h layout-2 (omega arith)));
-        ut1-size = le-trans (size-in (fieldAt s 2 i 3) (in-yes _ _ _ (field-right 2 i 3 orientation (omega arith) h layout-2 (omega arith)))) (lit≤ tt);
+        ut1-size = le-trans u (lit≤ tt);
         tai = in-yes _ _ _ (field-right 2 i 4 orientation (omega arith) h layout-2 (omega arith));
       }
 

@@ -15,7 +15,7 @@ use Rattle.earth.specs.declared.time.Epoch.{Epoch}
 use Rattle.earth.specs.TideInUT1.{tideOf}
 use Rattle.earth.proofs.TideInUT1.{tide-most}
 use Rattle.session.specs.declared.Day.{Day}
-use Rattle.delay.specs.Bounds.{InRecord}
+use Rattle.delay.specs.Bounds.{InRecord, Pole}
 use Rattle.delay.specs.DayValues.{ut1rOf, ut1Line, ut1Used, fOf, earthOf}
 
 pub ms-lo : {u : ℤ} → InMs u → pos 0 ≤ℤ u
@@ -59,3 +59,12 @@ f-in u ut1 h k =
     in-le
     (by≤ (⊖ (# 100000000)) (# 1000 ⊗ ⟨ u ⟩ ⊕ ⟨ q ⟩) (omega arith))
     (by≤ (# 1000 ⊗ ⟨ u ⟩ ⊕ ⟨ q ⟩) (# 86500000000) (omega arith))
+
+-- the pole at an epoch
+pub earth-pole : (r0 r1 : Day) (e : Epoch) → InRecord r0 → InRecord r1 → InMs (e .ms) → Pole (earthOf r0 r1 e .x) (earthOf r0 r1 e .y)
+unfolding earthOf
+earth-pole r0 r1 e a b h =
+    record {
+      x-size = between-size (r0 .x) (r1 .x) (e .ms) 1000000 h (a .x-size) (b .x-size);
+      y-size = between-size (r0 .y) (r1 .y) (e .ms) 1000000 h (a .y-size) (b .y-size);
+    }

@@ -12,6 +12,7 @@ use Rattle.session.specs.declared.Pass.{Pass}
 use Rattle.session.specs.File.{countOf}
 use Rattle.session.specs.Records.{dayBy, placeBy}
 use Rattle.delay.specs.declared.plane.Baseline.{Baseline}
+use Rattle.delay.specs.declared.plane.Direction.{Direction}
 use Rattle.delay.specs.declared.values.Earth.{Earth}
 use Rattle.delay.specs.PlaneWave.{directionOf, delayOf}
 use Rattle.delay.specs.DayValues.{earthOf}
@@ -39,6 +40,10 @@ covers s d = hasDay s d && hasDay s (d +ℤ pos 1)
 -- the earth at an epoch that the file covers
 unfoldable pub earthIn : List ℕ → Epoch → Earth
 earthIn s e = earthOf (dayBy s (e .day)) (dayBy s (e .day +ℤ pos 1)) e
+
+-- the delay of a baseline and a direction at an epoch of the file, as a pass takes it sample by sample
+unfoldable pub delayAt : List ℕ → Baseline → Direction → Epoch → ℤ
+delayAt s b d e = delayOf b d (earthIn s e .x) (earthIn s e .y) (earthIn s e .tick)
 
 -- "Sample i of a pass, counted from 0, is the delay at its epoch with i·step added."
 abbrev pub startOf : Pass → Epoch
