@@ -1,8 +1,29 @@
 // Delays of a plane wave between two stations, and the samples of a pass. Document 01, 'Day values' and 'Delay'.
 pub mod keep;
+pub mod pass;
 pub mod plane;
 pub mod records;
 pub mod values;
+
+use earth::Epoch;
+use earth::NumberAnswer;
+use pass::all_covered;
+use pass::sight_by;
+use pass::write_samples;
+use plane::delay_of;
+use records::covers;
+use records::earth_in;
+use session::records::pass_of;
+use session::refusal::count_of;
+use session::refusal::number;
+use session::refusal::refusal_of;
+use whole::sign::in_range;
+ghost use mathlib.Core.Path.{_≡_};
+ghost use mathlib.Core.Bool.{_&&_};
+ghost use Prim.Native.Nat.{_≤_, _<_};
+ghost use lib.ListN.{length};
+ghost use Rattle.earth.specs.Ranges.{dayOk, msOk};
+ghost use Rattle.delay.specs.Calls.{lowerOf, unless, idOk, noEarth, noNumber, orientationOutcome, delayOutcome, samplesOutcome, samplesRoom};
 
 // As used at an epoch: the pole, UT1-UTC with the tide, and ERA.
 #[repr(C)]
@@ -12,4 +33,148 @@ pub struct EarthAnswer {
     pub y: i64,
     pub ut1_utc: i64,
     pub tick: u32,
+}
+
+// The lower of a file's number and of 2 for an argument that is out of its range.
+fn judged(file: usize, ok: bool) -> usize
+    requires { ⌜ file ≤ 4 ⌝ }
+    ensures { λ r. ⌜ (r ≡ lowerOf file (unless ok 2)) × (r ≤ 4) ⌝ }
+{
+    if ok {
+        return file;
+    }
+    if file == 1 {
+        return 1;
+    }
+    2
+}
+
+fn no_earth(n: usize) -> EarthAnswer
+    requires { ⌜ n < 65536 ⌝ }
+    ensures { λ r. ⌜ r ≡ noEarth n ⌝ }
+{
+    EarthAnswer {
+        refusal: number(n),
+        x: 0,
+        y: 0,
+        ut1_utc: 0,
+        tick: 0,
+    }
+}
+
+fn no_number(n: usize) -> NumberAnswer
+    requires { ⌜ n < 65536 ⌝ }
+    ensures { λ r. ⌜ r ≡ noNumber n ⌝ }
+{
+    NumberAnswer {
+        refusal: number(n),
+        value: 0,
+    }
+}
+
+fn epoch_ok(day: i64, ms: i64) -> bool
+    ensures { λ r. ⌜ r ≡ (dayOk day && msOk ms) ⌝ }
+{
+    in_range(day, 41317, 69806) && in_range(ms, 0, 86399999)
+}
+
+fn id_ok(id: i64) -> bool
+    ensures { λ r. ⌜ r ≡ idOk id ⌝ }
+{
+    in_range(id, 1, 65535)
+}
+
+// The pole, UT1-UTC with the tide, and ERA, as used at an epoch.
+pub fn orientation(file: &[u8], day: i64, ms: i64) -> EarthAnswer
+    ensures { λ r. ⌜ r ≡ orientationOutcome (now (file .entry)) day ms ⌝ }
+{
+    let n = judged(refusal_of(file), epoch_ok(day, ms));
+    if n != 0 {
+        return no_earth(n);
+    }
+    if !covers(file, day) {
+        return no_earth(6);
+    }
+    let e = earth_in(file, Epoch { day: day, ms: ms });
+    EarthAnswer {
+        refusal: 0,
+        x: e.x,
+        y: e.y,
+        ut1_utc: e.ut1_utc,
+        tick: e.tick,
+    }
+}
+
+// Whether the three ids and the epoch are in their ranges.
+fn asked_ok(station1: i64, station2: i64, source: i64, day: i64, ms: i64) -> bool
+    ensures { λ r. ⌜ r ≡ (idOk station1 && (idOk station2 && (idOk source && (dayOk day && msOk ms)))) ⌝ }
+{
+    id_ok(station1) && (id_ok(station2) && (id_ok(source) && epoch_ok(day, ms)))
+}
+
+// The delay in picoseconds, at an epoch, of the stations and the source that the ids name.
+pub fn delay(
+    file: &[u8],
+    station1: i64,
+    station2: i64,
+    source: i64,
+    day: i64,
+    ms: i64,
+) -> NumberAnswer
+    ensures { λ r. ⌜ r ≡ delayOutcome (now (file .entry)) station1 station2 source day ms ⌝ }
+{
+    let n = judged(
+        refusal_of(file),
+        asked_ok(station1, station2, source, day, ms),
+    );
+    if n != 0 {
+        return no_number(n);
+    }
+    let v = sight_by(file, station1, station2, source);
+    if !v.found {
+        return no_number(5);
+    }
+    if !covers(file, day) {
+        return no_number(6);
+    }
+    let e = earth_in(file, Epoch { day: day, ms: ms });
+    let b = v.baseline;
+    let d = v.direction;
+    let value = delay_of(b, d, e.x, e.y, e.tick);
+    NumberAnswer {
+        refusal: 0,
+        value: value,
+    }
+}
+
+// The samples of a pass, written from the start of the room.
+pub fn samples(file: &[u8], pass: usize, room: &mut [i64]) -> NumberAnswer
+    ensures { λ r. ⌜ (r ≡ samplesOutcome (now (file .entry)) pass (length (now (room .entry)))) × (now (room .exit) ≡ samplesRoom (now (file .entry)) pass (now (room .entry))) ⌝ }
+{
+    let n = refusal_of(file);
+    if n != 0 {
+        return no_number(n);
+    }
+    if count_of(file, 3) <= pass {
+        return no_number(5);
+    }
+    let p = pass_of(file, pass);
+    let v = sight_by(file, p.station1, p.station2, p.source);
+    if !v.found {
+        return no_number(5);
+    }
+    if !all_covered(file, p) {
+        return no_number(6);
+    }
+    let k = p.samples as usize;
+    if room.len() < k {
+        return no_number(7);
+    }
+    let b = v.baseline;
+    let d = v.direction;
+    write_samples(file, p, b, d, room);
+    NumberAnswer {
+        refusal: 0,
+        value: p.samples,
+    }
 }

@@ -1,0 +1,259 @@
+-- `delay::delay` meets its contract.
+use mathlib.Core.Path.{_≡_, refl, sym, ap, subst, _∙_}
+use mathlib.Core.Bool.{Bool, true, false, _&&_, cond}
+use mathlib.Core.List.{List, [], _∷_}
+use Prim.Native.Nat.{ℕ, _≤_}
+use native.Mathlib.Nat.{le-trans}
+use native.Mathlib.Omega.{arith}
+use borrow.Author.Needs.{needs}
+use borrow.Author.Tests.{ne-eqb}
+use lib.Dec.{eqb, lit≤}
+use lib.IntN.{ℤ, pos}
+use mir.Syntax.{w64}
+use mir.Val.{toZ, ofZ}
+use Rattle.whole.proofs.Linear.{back, ret}
+use Rattle.whole.proofs.Machine.{var, is}
+use Rattle.whole.proofs.Tests.{passed, failed}
+use Rattle.earth.specs.declared.time.Epoch.{Epoch}
+use Rattle.earth.specs.declared.NumberAnswer.{NumberAnswer}
+use Rattle.earth.specs.Calls.{epochOf}
+use Rattle.earth.specs.Ranges.{InDay, InMs, dayOk, msOk}
+use Rattle.earth.proofs.Floors.{in-abs}
+use Rattle.session.specs.File.{refusalOf}
+use Rattle.session.specs.Records.{stationBy, sourceBy}
+use Rattle.delay.specs.declared.plane.Baseline.{Baseline}
+use Rattle.delay.specs.declared.plane.Direction.{Direction}
+use Rattle.delay.specs.declared.values.Earth.{Earth}
+use Rattle.delay.specs.Bounds.{Pole}
+use Rattle.delay.specs.Calls.{lowerOf, lowest, unless, idOk, allThere, number, noNumber, delayIn, delayNumber, delayOutcome}
+use Rattle.delay.specs.PlaneWave.{directionOf, delayOf}
+use Rattle.delay.specs.Sessions.{baselineOf, angleFor, delayBetween, covers, earthIn}
+use Rattle.delay.proofs.Covered.{earth-in-pole}
+use Rattle.delay.proofs.Lowest.{judged-first, judged-none, late-5-6, names-first}
+use Rattle.delay.proofs.Ranges.{asked-in}
+use Rattle.delay.proofs.delay.Statement.{statement}
+use Rattle.delay.proofs.delay.Tie as tie
+
+-- the answer, where the number is known
+refused : (s : List ℕ) (a b r day ms : ℤ) (n : ℕ) → delayNumber s a b r day ms ≡ n → (n ≡ 0 → ⊥) → noNumber n ≡ delayOutcome s a b r day ms
+unfolding delayOutcome
+refused s a b r day ms n e g = sym (rw (e, ne-eqb n 0 g) refl)
+
+given : (s : List ℕ) (a b r day ms : ℤ) → delayNumber s a b r day ms ≡ 0 → number (delayIn s a b r (epochOf day ms)) ≡ delayOutcome s a b r day ms
+unfolding delayOutcome
+given s a b r day ms e = sym (rw e refl)
+
+module _ (c : tie.After-judged) where
+  abbrev start : tie.Start
+  start = c .before .before .before .before
+
+  abbrev file : List ℕ
+  file = start .args .file .now
+
+  abbrev a : ℤ
+  a = start .args .station1
+
+  abbrev b : ℤ
+  b = start .args .station2
+
+  abbrev r : ℤ
+  r = start .args .source
+
+  abbrev day : ℤ
+  day = start .args .day
+
+  abbrev ms : ℤ
+  ms = start .args .ms
+
+  abbrev ok : Bool
+  ok = idOk a && (idOk b && (idOk r && (dayOk day && msOk ms)))
+
+  ok-is : c .before .asked-ok .result ≡ ok
+  ok-is =
+      simp (back (start .fits .station1), back (start .fits .station2), back (start .fits .source), back (start .fits .day), back (start .fits .ms))
+      at (c .before .asked-ok .ensures)
+
+  number-is : c .judged .result ≡ lowerOf (refusalOf file) (unless ok 2)
+  number-is = c .judged .ensures .0 ∙ ap (λ (f : ℕ). lowerOf f (unless (c .before .asked-ok .result) 2)) (c .before .before .refusal-of .ensures .0) ∙ ap (λ (t : Bool). lowerOf (refusalOf file) (unless t 2)) ok-is
+
+refusal-of-requires : tie.Need-refusal-of-requires
+refusal-of-requires c κs = search needs
+
+asked-ok-requires : tie.Need-asked-ok-requires
+asked-ok-requires c κs = search needs
+
+judged-requires : tie.Need-judged-requires
+judged-requires c κs = search needs
+
+no-number-requires : tie.Need-no-number-requires
+no-number-requires c κs = search needs
+
+returns : tie.Need-returns
+unfolding delayNumber
+returns c =
+    let k = c .before .before in
+    let f = file k in
+    let n : ℕ = k .judged .result in
+    let g : lowerOf (refusalOf f) (unless (ok k) 2) ≡ 0 → ⊥ = λ e. c .before .if1 .taken (number-is k ∙ e) in
+    let h : refusalOf f ≤ 4 = rw (k .before .before .refusal-of .ensures .0) at (k .before .before .refusal-of .ensures .1) in
+    let t = allThere f (a k) (b k) (r k) in
+    let v = covers f (day k) in
+    c .no-number .ensures
+    ∙ refused f (a k) (b k) (r k) (day k) (ms k) n
+    (judged-first (refusalOf f) (lowest (unless t 5 ∷ unless v 6 ∷ [])) (ok k) h (late-5-6 t v) g ∙ sym (number-is k))
+    (c .before .if1 .taken)
+
+-- past the first test the file is accepted and the arguments are in range
+module _ (c : tie.Else1) where
+  clear : (refusalOf (file (c .before)) ≡ 0) × (ok (c .before) ≡ true)
+  clear = judged-none (refusalOf (file (c .before))) (ok (c .before)) (sym (number-is (c .before)) ∙ c .if1 .left)
+
+  in-range : InDay (day (c .before)) × InMs (ms (c .before))
+  in-range = asked-in (idOk (a (c .before))) (idOk (b (c .before))) (idOk (r (c .before))) (day (c .before)) (ms (c .before)) (clear .1)
+
+sight-by-requires : tie.Need-sight-by-requires
+sight-by-requires c κs = clear c .0
+
+no-number-requires-2 : tie.Need-no-number-requires-2
+no-number-requires-2 c κs = search needs
+
+module _ (c : tie.After-sight-by) where
+  abbrev e1 : tie.Else1
+  e1 = c .before
+
+  abbrev k : tie.After-judged
+  k = e1 .before
+
+  found-is : c .sight-by .result .found ≡ allThere (file k) (a k) (b k) (r k)
+  found-is =
+      c .sight-by .ensures .found-is
+      ∙ simp (back (start k .fits .station1), back (start k .fits .station2), back (start k .fits .source))
+
+returns-2 : tie.Need-returns-2
+unfolding delayNumber
+returns-2 c =
+    let w = c .before .before .before in
+    let q = k w in
+    let h = failed (found-is w) (c .before .if2 .taken) in
+    c .no-number2 .ensures
+    ∙ refused (file q) (a q) (b q) (r q) (day q) (ms q) 5 (rw (clear (e1 w) .0, clear (e1 w) .1, h) (names-first (covers (file q) (day q)))) (λ z. omega arith)
+
+module _ (c : tie.Else2) where
+  abbrev w : tie.After-sight-by
+  w = c .before .before
+
+  is-found : w .sight-by .result .found ≡ true
+  is-found = passed refl (c .if2 .left)
+
+  there : allThere (file (k w)) (a (k w)) (b (k w)) (r (k w)) ≡ true
+  there = sym (found-is w) ∙ is-found
+
+covers-requires : tie.Need-covers-requires
+covers-requires c κs =
+    let s = start (k (w c)) in
+    (clear (e1 (w c)) .0, rw (back (s .fits .day)) (le-trans (in-abs (s .args .day) (in-range (e1 (w c)) .0)) (lit≤ tt)))
+
+no-number-requires-3 : tie.Need-no-number-requires-3
+no-number-requires-3 c κs = search needs
+
+covers-is : (c : tie.After-covers) → c .covers .result ≡ covers (file (k (w (c .before)))) (day (k (w (c .before))))
+covers-is c = c .covers .ensures ∙ ap (covers (file (k (w (c .before))))) (back (start (k (w (c .before))) .fits .day))
+
+returns-3 : tie.Need-returns-3
+unfolding delayNumber
+returns-3 c =
+    let v = c .before .before in
+    let l = v .before in
+    let q = k (w l) in
+    let h = failed (covers-is v) (c .before .if3 .taken) in
+    c .no-number3 .ensures
+    ∙ refused (file q) (a q) (b q) (r q) (day q) (ms q) 6 (rw (clear (e1 (w l)) .0, clear (e1 (w l)) .1, there l, h) refl) (λ z. omega arith)
+
+module _ (c : tie.Else3) where
+  abbrev l : tie.Else2
+  l = c .before .before
+
+  abbrev q : tie.After-judged
+  q = k (w l)
+
+  is-covered : covers (file q) (day q) ≡ true
+  is-covered = passed (covers-is (c .before)) (c .if3 .left)
+
+  zero-number : delayNumber (file q) (a q) (b q) (r q) (day q) (ms q) ≡ 0
+  unfolding delayNumber
+  zero-number = rw (clear (e1 (w l)) .0, clear (e1 (w l)) .1, there l, is-covered) refl
+
+earth-in-requires : tie.Need-earth-in-requires
+earth-in-requires c κs =
+    let s = start (q c) in
+    (clear (e1 (w (l c))) .0, ap (covers (file (q c))) (back (s .fits .day)) ∙ is-covered c, rw (back (s .fits .ms)) (in-range (e1 (w (l c))) .1))
+
+module _ (c : tie.After-earth-in) where
+  abbrev p : tie.Else3
+  p = c .before
+
+  earth-is : c .earth-in .result ≡ earthIn (file (q p)) (epochOf (day (q p)) (ms (q p)))
+  earth-is =
+      let s = start (q p) in
+      let t : _≡_ {A = Epoch} (record { day = toZ w64 (ofZ w64 (s .args .day)); ms = toZ w64 (ofZ w64 (s .args .ms)) }) (epochOf (s .args .day) (s .args .ms)) = λ i. record { day = back (s .fits .day) i; ms = back (s .fits .ms) i } in
+      c .earth-in .ensures ∙ ap (earthIn (file (q p))) t
+
+  pole : Pole (c .earth-in .result .x) (c .earth-in .result .y)
+  pole =
+      subst (λ (v : Earth). Pole (v .x) (v .y)) (sym earth-is)
+      (earth-in-pole (file (q p)) (epochOf (day (q p)) (ms (q p))) (clear (e1 (w (l p))) .0) (is-covered p) (in-range (e1 (w (l p))) .1))
+
+  x-back : toZ w64 (ofZ w64 (c .earth-in .result .x)) ≡ c .earth-in .result .x
+  x-back = is (var (c .earth-in .result .x) 1000000 (pole .x-size)) tt
+
+  y-back : toZ w64 (ofZ w64 (c .earth-in .result .y)) ≡ c .earth-in .result .y
+  y-back = is (var (c .earth-in .result .y) 1000000 (pole .y-size)) tt
+
+delay-of-requires : tie.Need-delay-of-requires
+delay-of-requires c κs =
+    let v = c .before .before .before .before in
+    let g = w (l (p v)) .sight-by .ensures in
+    (g .short, g .turned, simp (x-back v, y-back v) (pole v))
+
+returns-4 : tie.Need-returns-4
+unfolding delayIn delayBetween angleFor
+returns-4 c =
+    let v = c .before .before .before .before .before in
+    let o = w (l (p v)) in
+    let u = q (p v) in
+    let f = file u in
+    let s = start u in
+    let g = o .sight-by .ensures in
+    let found = is-found (l (p v)) in
+    let e = simp (x-back v, y-back v) at (c .delay-of .ensures) in
+    let bl : o .sight-by .result .baseline ≡ baselineOf (stationBy f (a u)) (stationBy f (b u)) =
+    g .baseline-is found ∙ simp (back (s .fits .station1), back (s .fits .station2)) in
+    let di : o .sight-by .result .direction ≡ directionOf (sourceBy f (r u) .«right_ascension») (sourceBy f (r u) .declination) =
+    g .direction-is found ∙ simp (back (s .fits .source)) in
+    let z =
+    ret (c .delay-of .result) (c .delay-of .ok)
+    ∙ e
+    ∙ ap (λ (x : Baseline). delayOf x (o .sight-by .result .direction) (v .earth-in .result .x) (v .earth-in .result .y) (v .earth-in .result .tick)) bl
+    ∙ ap (λ (x : Direction). delayOf (baselineOf (stationBy f (a u)) (stationBy f (b u))) x (v .earth-in .result .x) (v .earth-in .result .y) (v .earth-in .result .tick)) di
+    ∙ ap (λ (x : Earth). delayOf (baselineOf (stationBy f (a u)) (stationBy f (b u))) (directionOf (sourceBy f (r u) .«right_ascension») (sourceBy f (r u) .declination)) (x .x) (x .y) (x .tick)) (earth-is v) in
+    let n : _≡_ {A = NumberAnswer} (record { refusal = pos 0; value = toZ w64 (ofZ w64 (c .delay-of .result)) }) (number (delayIn f (a u) (b u) (r u) (epochOf (day u) (ms u)))) = λ i. record { refusal = pos 0; value = z i } in
+    n ∙ given f (a u) (b u) (r u) (day u) (ms u) (zero-number (p v))
+
+pub delay-spec : {M : Type 1} → statement M
+delay-spec =
+    tie.close
+    (tie.spec
+    refusal-of-requires
+    asked-ok-requires
+    judged-requires
+    no-number-requires
+    returns
+    sight-by-requires
+    no-number-requires-2
+    returns-2
+    covers-requires
+    no-number-requires-3
+    returns-3
+    earth-in-requires
+    delay-of-requires
+    returns-4)

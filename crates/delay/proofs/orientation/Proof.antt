@@ -1,0 +1,148 @@
+-- `delay::orientation` meets its contract.
+use mathlib.Core.Path.{_≡_, refl, sym, ap, subst, _∙_}
+use mathlib.Core.Bool.{Bool, true, false, _&&_, cond}
+use mathlib.Core.List.{List, [], _∷_}
+use Prim.Native.Nat.{ℕ, _≤_}
+use native.Mathlib.Nat.{le-trans}
+use native.Mathlib.Omega.{arith}
+use borrow.Author.Needs.{needs}
+use borrow.Author.Tests.{eq-eqb, ne-eqb}
+use lib.Dec.{eqb, lit≤}
+use lib.IntN.{ℤ, pos}
+use mir.Syntax.{w64}
+use mir.Val.{toZ, ofZ}
+use Rattle.whole.proofs.Linear.{back, ret}
+use Rattle.whole.proofs.Tests.{passed, failed}
+use Rattle.earth.specs.declared.time.Epoch.{Epoch}
+use Rattle.earth.specs.Calls.{epochOf}
+use Rattle.earth.specs.Ranges.{InDay, InMs, dayOk, msOk}
+use Rattle.earth.proofs.Floors.{in-abs}
+use Rattle.session.specs.File.{refusalOf}
+use Rattle.delay.specs.declared.EarthAnswer.{EarthAnswer}
+use Rattle.delay.specs.declared.values.Earth.{Earth}
+use Rattle.delay.specs.Calls.{lowerOf, lowest, unless, noEarth, earthAnswer, orientationNumber, orientationOutcome}
+use Rattle.delay.specs.Sessions.{covers, earthIn}
+use Rattle.delay.proofs.Lowest.{judged-first, judged-none, late-6}
+use Rattle.delay.proofs.Ranges.{epoch-in}
+use Rattle.delay.proofs.orientation.Statement.{statement}
+use Rattle.delay.proofs.orientation.Tie as tie
+
+-- the answer, where the number is known
+refused : (s : List ℕ) (day ms : ℤ) (n : ℕ) → orientationNumber s day ms ≡ n → (n ≡ 0 → ⊥) → noEarth n ≡ orientationOutcome s day ms
+unfolding orientationOutcome
+refused s day ms n e g = sym (rw (e, ne-eqb n 0 g) refl)
+
+given : (s : List ℕ) (day ms : ℤ) → orientationNumber s day ms ≡ 0 → earthAnswer (earthIn s (epochOf day ms)) ≡ orientationOutcome s day ms
+unfolding orientationOutcome
+given s day ms e = sym (rw e refl)
+
+module _ (c : tie.After-judged) where
+  abbrev start : tie.Start
+  start = c .before .before .before .before
+
+  abbrev file : List ℕ
+  file = start .args .file .now
+
+  abbrev ok : Bool
+  ok = dayOk (start .args .day) && msOk (start .args .ms)
+
+  ok-is : c .before .epoch-ok .result ≡ ok
+  ok-is = simp (back (start .fits .day), back (start .fits .ms)) at (c .before .epoch-ok .ensures)
+
+  number-is : c .judged .result ≡ lowerOf (refusalOf file) (unless ok 2)
+  number-is = c .judged .ensures .0 ∙ ap (λ (f : ℕ). lowerOf f (unless (c .before .epoch-ok .result) 2)) (c .before .before .refusal-of .ensures .0) ∙ ap (λ (b : Bool). lowerOf (refusalOf file) (unless b 2)) ok-is
+
+refusal-of-requires : tie.Need-refusal-of-requires
+refusal-of-requires c κs = search needs
+
+epoch-ok-requires : tie.Need-epoch-ok-requires
+epoch-ok-requires c κs = search needs
+
+judged-requires : tie.Need-judged-requires
+judged-requires c κs = search needs
+
+no-earth-requires : tie.Need-no-earth-requires
+no-earth-requires c κs = search needs
+
+returns : tie.Need-returns
+unfolding orientationNumber
+returns c =
+    let k = c .before .before in
+    let s = start k in
+    let n : ℕ = k .judged .result in
+    let g : lowerOf (refusalOf (file k)) (unless (ok k) 2) ≡ 0 → ⊥ = λ e. c .before .if1 .taken (number-is k ∙ e) in
+    let f : refusalOf (file k) ≤ 4 = rw (k .before .before .refusal-of .ensures .0) at (k .before .before .refusal-of .ensures .1) in
+    c .no-earth .ensures
+    ∙ refused (file k) (s .args .day) (s .args .ms) n
+    (judged-first (refusalOf (file k)) (lowest (unless (covers (file k) (s .args .day)) 6 ∷ [])) (ok k) f (late-6 (covers (file k) (s .args .day))) g ∙ sym (number-is k))
+    (c .before .if1 .taken)
+
+-- past the first test the file is accepted and the arguments are in range
+module _ (c : tie.Else1) where
+  clear : (refusalOf (file (c .before)) ≡ 0) × (ok (c .before) ≡ true)
+  clear = judged-none (refusalOf (file (c .before))) (ok (c .before)) (sym (number-is (c .before)) ∙ c .if1 .left)
+
+  in-range : InDay (start (c .before) .args .day) × InMs (start (c .before) .args .ms)
+  in-range = epoch-in (start (c .before) .args .day) (start (c .before) .args .ms) (clear .1)
+
+covers-requires : tie.Need-covers-requires
+covers-requires c κs =
+    let s = start (c .before) in
+    (clear c .0, rw (back (s .fits .day)) (le-trans (in-abs (s .args .day) (in-range c .0)) (lit≤ tt)))
+
+no-earth-requires-2 : tie.Need-no-earth-requires-2
+no-earth-requires-2 c κs = search needs
+
+covers-is : (c : tie.After-covers) → c .covers .result ≡ covers (file (c .before .before)) (start (c .before .before) .args .day)
+covers-is c = c .covers .ensures ∙ ap (covers (file (c .before .before))) (back (start (c .before .before) .fits .day))
+
+returns-2 : tie.Need-returns-2
+unfolding orientationNumber
+returns-2 c =
+    let v = c .before .before in
+    let e = v .before in
+    let k = e .before in
+    let s = start k in
+    let h = failed (covers-is v) (c .before .if2 .taken) in
+    c .no-earth2 .ensures ∙ refused (file k) (s .args .day) (s .args .ms) 6 (rw (clear e .0, clear e .1, h) refl) (λ z. omega arith)
+
+earth-in-requires : tie.Need-earth-in-requires
+earth-in-requires c κs =
+    let v = c .before in
+    let e = v .before in
+    let s = start (e .before) in
+    (clear e .0, ap (covers (file (e .before))) (back (s .fits .day)) ∙ passed (covers-is v) (c .if2 .left), rw (back (s .fits .ms)) (in-range e .1))
+
+-- the number, where every test passed
+zero-number : (c : tie.Else2) → orientationNumber (file (c .before .before .before)) (start (c .before .before .before) .args .day) (start (c .before .before .before) .args .ms) ≡ 0
+unfolding orientationNumber
+zero-number c = let e = c .before .before in rw (clear e .0, clear e .1, passed (covers-is (c .before)) (c .if2 .left)) refl
+
+returns-3 : tie.Need-returns-3
+returns-3 c =
+    let v = c .before in
+    let p = v .before in
+    let s = start (p .before .before .before) in
+    let f = file (p .before .before .before) in
+    let r = v .earth-in .result in
+    let ex = ret (r .x) (c .struct-told .given .0 .1) in
+    let ey = ret (r .y) (c .struct-told .given .1 .0 .1) in
+    let eu = ret (r .«ut1_utc») (c .struct-told .given .1 .1 .0 .1) in
+    let a : _≡_ {A = EarthAnswer} (record { refusal = pos 0; x = toZ w64 (ofZ w64 (r .x)); y = toZ w64 (ofZ w64 (r .y)); «ut1_utc» = toZ w64 (ofZ w64 (r .«ut1_utc»)); tick = r .tick }) (earthAnswer r) = λ i. record { refusal = pos 0; x = ex i; y = ey i; «ut1_utc» = eu i; tick = r .tick } in
+    let t : _≡_ {A = Epoch} (record { day = toZ w64 (ofZ w64 (s .args .day)); ms = toZ w64 (ofZ w64 (s .args .ms)) }) (epochOf (s .args .day) (s .args .ms)) = λ i. record { day = back (s .fits .day) i; ms = back (s .fits .ms) i } in
+    a ∙ ap earthAnswer (v .earth-in .ensures ∙ ap (earthIn f) t) ∙ given f (s .args .day) (s .args .ms) (zero-number p)
+
+pub orientation-spec : {M : Type 1} → statement M
+orientation-spec =
+    tie.close
+    (tie.spec
+    refusal-of-requires
+    epoch-ok-requires
+    judged-requires
+    no-earth-requires
+    returns
+    covers-requires
+    no-earth-requires-2
+    returns-2
+    earth-in-requires
+    returns-3)
