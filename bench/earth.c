@@ -146,31 +146,27 @@ static struct angle plain_angle_at(int64_t day, int64_t f)
 	return (struct angle){0, e, ((unsigned_wide)e << 32) / turn};
 }
 
-/* An answer as one number, the same for both sides: what this costs is counted with each. */
-#define ANSWER(name, kind, value)                                                                                     \
-	static int64_t ours_##name##_value(int64_t a, int64_t b, int64_t c) { struct kind r = ours_##name; return value; } \
-	static int64_t plain_##name##_value(int64_t a, int64_t b, int64_t c) { struct kind r = plain_##name; return value; }
-#define ours_later bench_later(a, b, c)
-#define plain_later plain_later(a, b, c)
-#define ours_arguments bench_arguments(a, b, c)
-#define plain_arguments plain_arguments(a, b, c)
-#define ours_tide bench_tide(a, b, c)
-#define plain_tide plain_tide(a, b, c)
-#define ours_angle_at bench_angle_at(a, b)
-#define plain_angle_at plain_angle_at(a, b)
+/* An answer as one number, made alike on both sides: what this costs is counted with each. */
+static int64_t epoch_sum(struct epoch r) { return r.refusal + r.day + r.ms; }
+static int64_t ticks_sum(struct ticks r) { return r.refusal + r.n + r.l + r.lp + r.f + r.d + r.om; }
+static int64_t number_sum(struct number r) { return r.refusal + r.value; }
+static int64_t angle_sum(struct angle r) { return r.refusal + r.e + r.tick; }
 
-ANSWER(later, epoch, r.refusal + r.day + r.ms)
-ANSWER(arguments, ticks, r.refusal + r.n + r.l + r.lp + r.f + r.d + r.om)
-ANSWER(tide, number, r.refusal + r.value)
-ANSWER(angle_at, angle, r.refusal + r.e + r.tick)
+static int64_t ours_later(int64_t day, int64_t ms, int64_t add) { return epoch_sum(bench_later(day, ms, add)); }
+static int64_t c_later(int64_t day, int64_t ms, int64_t add) { return epoch_sum(plain_later(day, ms, add)); }
+static int64_t ours_arguments(int64_t day, int64_t ms, int64_t tai) { return ticks_sum(bench_arguments(day, ms, tai)); }
+static int64_t c_arguments(int64_t day, int64_t ms, int64_t tai) { return ticks_sum(plain_arguments(day, ms, tai)); }
+static int64_t ours_tide(int64_t day, int64_t ms, int64_t tai) { return number_sum(bench_tide(day, ms, tai)); }
+static int64_t c_tide(int64_t day, int64_t ms, int64_t tai) { return number_sum(plain_tide(day, ms, tai)); }
+static int64_t ours_angle_at(int64_t day, int64_t f) { return angle_sum(bench_angle_at(day, f)); }
+static int64_t c_angle_at(int64_t day, int64_t f) { return angle_sum(plain_angle_at(day, f)); }
 
 #define DAY between(41317, 69806)
 #define MS between(0, 86399999)
-#define PARAMETERS (int64_t a, int64_t b, int64_t c)
 
-ROW(later, int64_t, PARAMETERS, (DAY, MS, between(0, 14742000000)), ours_later_value, plain_later_value)
-ROW(arguments, int64_t, PARAMETERS, (DAY, MS, between(0, 99)), ours_arguments_value, plain_arguments_value)
-ROW(tide, int64_t, PARAMETERS, (DAY, MS, between(0, 99)), ours_tide_value, plain_tide_value)
-ROW(angle_at, int64_t, PARAMETERS, (DAY, between(-100000000, 86500000000), 0), ours_angle_at_value, plain_angle_at_value)
+ROW(later, int64_t, (int64_t day, int64_t ms, int64_t add), (DAY, MS, between(0, 14742000000)), ours_later, c_later)
+ROW(arguments, int64_t, (int64_t day, int64_t ms, int64_t tai), (DAY, MS, between(0, 99)), ours_arguments, c_arguments)
+ROW(tide, int64_t, (int64_t day, int64_t ms, int64_t tai), (DAY, MS, between(0, 99)), ours_tide, c_tide)
+ROW(angle_at, int64_t, (int64_t day, int64_t f), (DAY, between(-100000000, 86500000000)), ours_angle_at, c_angle_at)
 
 MAIN({"later", row_later}, {"arguments", row_arguments}, {"tide", row_tide}, {"angle_at", row_angle_at})
