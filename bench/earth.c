@@ -1,5 +1,6 @@
 /* links: bench */
 #include "frame.h"
+#include "plain_sine.h"
 
 /* The answers of the calls, as in C. */
 struct epoch { int64_t refusal, day, ms; };
@@ -48,32 +49,6 @@ static struct ticks plain_arguments(int64_t day, int64_t ms, int64_t tai)
 	int64_t n = minutes(day, ms, tai);
 	return (struct ticks){0, n, argument(4858682490, 17179159232178, n), argument(12871047930, 1295965810481, n),
 		argument(3357795262, 17395272628478, n), argument(10722607037, 16029616012090, n), argument(4501603980, -69628905431, n)};
-}
-
-static int64_t s_of(uint64_t r)
-{
-	const uint64_t one = 1 << 30;
-	uint64_t y = r * 1686629713 / one;
-	uint64_t z = y * y / one;
-	uint64_t h = one - z / 156;
-	h = one - z * h / (110 * one);
-	h = one - z * h / (72 * one);
-	h = one - z * h / (42 * one);
-	h = one - z * h / (20 * one);
-	h = one - z * h / (6 * one);
-	uint64_t s = y * h / one;
-	return s < one ? s : one;
-}
-
-static int64_t sine(uint32_t a)
-{
-	uint64_t r = a % (1u << 30);
-	switch (a / (1u << 30)) {
-	case 0: return s_of(r);
-	case 1: return s_of((1 << 30) - r);
-	case 2: return -s_of(r);
-	default: return -s_of((1 << 30) - r);
-	}
 }
 
 static const int table[41][6] = {
@@ -128,7 +103,7 @@ static struct number plain_tide(int64_t day, int64_t ms, int64_t tai)
 	int64_t t = 0;
 	for (int i = 0; i < 41; i++) {
 		const int *r = table[i];
-		t += r[5] * sine(r[0] * a.l + r[1] * a.lp + r[2] * a.f + r[3] * a.d + r[4] * a.om);
+		t += r[5] * plain_sine(r[0] * a.l + r[1] * a.lp + r[2] * a.f + r[3] * a.d + r[4] * a.om);
 	}
 	int64_t v = 1000 * t;
 	return (struct number){0, v < 0 ? -((-v + (1 << 29)) >> 30) : (v + (1 << 29)) >> 30};

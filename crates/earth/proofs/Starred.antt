@@ -2,6 +2,7 @@
 use mathlib.Core.Path.{_≡_, refl, sym, ap, _∙_}
 use Prim.Native.Nat.{ℕ, _+_, _*_, _≤_, _<_}
 use native.Mathlib.Omega.{arith}
+use borrow.Author.Tests.{le-leb}
 use lib.IntN.{ℤ, pos, negsuc, negℤ, _+ℤ_, _-ℤ_, _*ℤ_}
 use Rattle.whole.specs.Whole.{floorZ}
 use Rattle.whole.proofs.Quote.{⟨_⟩, #, _⊕_, _⊝_, _⊗_, ⊖, by≡, by≤, by<, of≡, of≤, of<}
@@ -9,7 +10,7 @@ use Rattle.whole.proofs.Rounding.{floor-unique, floor-lo, floor-hi}
 use Rattle.earth.specs.Minutes.{minutesOf}
 use Rattle.earth.specs.DelaunayArguments.{argumentOf, argumentsOf}
 use Rattle.earth.specs.Angle.{sumOf, eOf, eraOf}
-use Rattle.earth.specs.Calls.{epochOf}
+use Rattle.earth.specs.Calls.{epochOf, argumentsOutcome, angleOutcome}
 
 -- "n = 0, l: 1,610,176,110 ticks."
 pub l-at-0 : argumentsOf (pos 0) .l ≡ 1610176110
@@ -66,3 +67,20 @@ era-at-noon = refl
 pub era-at-0h : eraOf (pos 51544) (pos 0) ≡ 1192662456
 unfolding eraOf eOf sumOf
 era-at-0h = refl
+
+-- ---- the same, as the answers of the calls
+pub arguments-at-0 : (u : ℕ) → 43135816 ≤ u → u ≤ 43195815
+    → argumentsOutcome (pos 51544) (pos u) (pos 32) ≡ record { refusal = pos 0; n = pos 0; l = 1610176110; lp = 4265488420; f = 1112779385; d = 3553491246; om = 1491839650 }
+unfolding argumentsOutcome n-at argumentsOf argumentOf
+arguments-at-0 u l h =
+    let lo = le-leb 0 u (omega arith) in
+    let hi = le-leb u 86399999 (omega arith) in
+    simp (n-zero u l h, lo, hi)
+
+pub angle-at-noon : angleOutcome (pos 51544) (pos 43200000000) ≡ record { refusal = pos 0; e = pos 77905727326332276; tick = 3346025510 }
+unfolding angleOutcome eraOf eOf sumOf
+angle-at-noon = refl
+
+pub angle-at-0h : angleOutcome (pos 51544) (pos 0) ≡ record { refusal = pos 0; e = pos 27768836730832276; tick = 1192662456 }
+unfolding angleOutcome eraOf eOf sumOf
+angle-at-0h = refl

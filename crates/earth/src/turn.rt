@@ -11,7 +11,8 @@ fn whole_ms(f: i64) -> i64
     (f + 100000000) / 1000 - 100000
 }
 
-// E. Days are counted from 41,317 and microseconds from 108 s before 0h: each floor moves by a whole number, and nothing is below 0.
+// E. Days are counted from 41,317 and microseconds from 108 s before 0h: each floor moves by a whole number, nothing is below 0, and the
+// constant takes up, modulo 10^17, what was added.
 pub fn turn_of(day: i64, f: i64) -> u64
     requires { ⌜ InDay day × InF f ⌝ }
     ensures { λ r. ⌜ r ≡ eOf day f ⌝ }
