@@ -1,4 +1,4 @@
--- `earth::rows::tide_at_minute` meets its contract. The code's table is the definition's, by computation.
+-- `earth::rows::tide_at_minute` meets its contract.
 use borrow.Author.Needs.{needs}
 use mathlib.Core.Path.{_≡_, sym, ap, _∙_}
 use Prim.Native.Nat.{ℕ, _*_, _^_, _≤_}
@@ -14,6 +14,9 @@ use Rattle.earth.proofs.TideInUT1.{rows-few, rows-size, t-most}
 use Rattle.earth.proofs.rows.tide_at_minute.Statement.{statement}
 use Rattle.earth.proofs.rows.tide_at_minute.Tie as tie
 
+table-requires : tie.Need-table-requires
+table-requires c κs = search needs
+
 slice-aggregate-rows-sum : tie.Need-slice-aggregate-rows-sum
 slice-aggregate-rows-sum c = search needs
 
@@ -21,16 +24,18 @@ arguments-at-requires : tie.Need-arguments-at-requires
 arguments-at-requires c κs = search needs
 
 rows-sum-requires : tie.Need-rows-sum-requires
-unfolding rows
-rows-sum-requires c κs = let h : sizes rows ≤ 2 ^ 31 = omega (arith, rows-size) in (rows-few, h)
+rows-sum-requires c κs =
+    let h : sizes rows ≤ 2 ^ 31 = omega (arith, rows-size) in rw (c .before .before .table .ensures) (rows-few, h)
 
-t-is : (c : tie.After-rows-sum) → c .rows-sum .result ≡ rowsSum rows (argumentsOf (c .before .before .before .args .n))
-unfolding rows
-t-is c = c .rows-sum .ensures ∙ ap (rowsSum rows) (simp (back, c .before .before .before .fits .n) at (c .before .arguments-at .ensures))
+t-is : (c : tie.After-rows-sum) → c .rows-sum .result ≡ rowsSum rows (argumentsOf (c .before .before .before .before .args .n))
+t-is c =
+    let s = c .before .before .before .before in
+    let a = simp (back, s .fits .n) at (c .before .arguments-at .ensures) in
+    c .rows-sum .ensures ∙ (λ i. rowsSum (c .before .before .before .table .ensures i) (a i))
 
 abbrev thousand : tie.After-rows-sum → M
 thousand c =
-    lit (pos 1000) ⊠ var (c .rows-sum .result) (2723 * 2 ^ 30) (rw (t-is c) (t-most (argumentsOf (c .before .before .before .args .n))))
+    lit (pos 1000) ⊠ var (c .rows-sum .result) (2723 * 2 ^ 30) (rw (t-is c) (t-most (argumentsOf (c .before .before .before .before .args .n))))
 
 mul-round-div : tie.Need-mul-round-div
 mul-round-div c = ok (thousand c) tt
@@ -48,4 +53,4 @@ returns c =
 
 pub tide-at-minute-spec : {M : Type 1} → statement M
 tide-at-minute-spec =
-    tie.close (tie.spec slice-aggregate-rows-sum arguments-at-requires rows-sum-requires mul-round-div round-div-requires returns)
+    tie.close (tie.spec table-requires slice-aggregate-rows-sum arguments-at-requires rows-sum-requires mul-round-div round-div-requires returns)
