@@ -37,12 +37,6 @@ abbrev thousand : tie.After-rows-sum → M
 thousand c =
     lit (pos 1000) ⊠ var (c .rows-sum .result) (2723 * 2 ^ 30) (rw (t-is c) (t-most (argumentsOf (c .before .before .before .before .args .n))))
 
-mul-round-div : tie.Need-mul-round-div
-mul-round-div c = ok (thousand c) tt
-
-round-div-requires : tie.Need-round-div-requires
-round-div-requires c κs = rw (is (thousand c) tt) (omega (arith, bounded (thousand c)))
-
 returns : tie.Need-returns
 unfolding tideAt
 returns c =
@@ -50,6 +44,12 @@ returns c =
     ret (c .round-div .result) (c .round-div .ok)
     ∙ c .round-div .ensures
     ∙ ap (λ (z : ℤ). R z (2 ^ 30)) (is (thousand d) tt ∙ ap (λ (z : ℤ). pos 1000 *ℤ z) (t-is d))
+
+mul-round-div : tie.Need-mul-round-div
+mul-round-div c = ok (thousand c) tt
+
+round-div-requires : tie.Need-round-div-requires
+round-div-requires c κs = rw (is (thousand c) tt) (omega (arith, bounded (thousand c)))
 
 pub tide-at-minute-spec : {M : Type 1} → statement M
 tide-at-minute-spec =
