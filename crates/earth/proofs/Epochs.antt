@@ -1,15 +1,13 @@
 -- The later epoch: it lies as many milliseconds on as were added, its millisecond is one of a day, and nothing added changes nothing.
 -- Assumes nothing.
-use mathlib.Core.Path.{_≡_, refl, sym, ap, _∙_}
-use Prim.Native.Nat.{ℕ, _≤_, _<_}
+use mathlib.Core.Path.{_≡_, sym, ap, _∙_}
+use Prim.Native.Nat.{_≤_}
 use native.Mathlib.Omega.{arith}
-use native.Mathlib.Nat.{div-eq-of-lt, mod-eq-of-lt}
-use lib.IntN.{ℤ, pos, negsuc, _+ℤ_, _*ℤ_, +ℤ-idr}
+use lib.IntN.{ℤ, pos, _+ℤ_, _*ℤ_, +ℤ-idr}
 use lib.Signed.{_≤ℤ_}
-use Rattle.whole.specs.Whole.{P, N, floorZ, modZ}
-use Rattle.whole.proofs.Linear.{In}
-use Rattle.whole.proofs.Quote.{⟨_⟩, #, _⊕_, _⊗_, by≡, by≤, of≡, of≤}
-use Rattle.whole.proofs.Rounding.{floor-mod, mod-below, floor-unique}
+use Rattle.whole.specs.Whole.{floorZ, modZ}
+use Rattle.whole.proofs.Quote.{⟨_⟩, #, _⊕_, _⊗_, by≡, by≤, of≡}
+use Rattle.whole.proofs.Rounding.{floor-mod, mod-below}
 use Rattle.earth.specs.declared.time.Epoch.{Epoch}
 use Rattle.earth.specs.Ranges.{InMs, InAdd}
 use Rattle.earth.specs.Epoch.{laterOf}

@@ -1,11 +1,11 @@
 -- Document 01, 'Numbers to meet': the starred cases of arguments, minutes and rotation angle, and minutes of days before 51,544. Assumes nothing.
 use mathlib.Core.Path.{_≡_, refl, sym, ap, _∙_}
-use Prim.Native.Nat.{ℕ, _+_, _*_, _≤_, _<_}
+use Prim.Native.Nat.{ℕ, _≤_, _<_}
 use native.Mathlib.Omega.{arith}
 use borrow.Author.Tests.{le-leb}
-use lib.IntN.{ℤ, pos, negsuc, negℤ, _+ℤ_, _-ℤ_, _*ℤ_}
+use lib.IntN.{ℤ, pos, negsuc, negℤ, _-ℤ_}
 use Rattle.whole.specs.Whole.{floorZ}
-use Rattle.whole.proofs.Quote.{⟨_⟩, #, _⊕_, _⊝_, _⊗_, ⊖, by≡, by≤, by<, of≡, of≤, of<}
+use Rattle.whole.proofs.Quote.{#, _⊕_, _⊝_, _⊗_, by≡, by≤, by<, of≤, of<}
 use Rattle.whole.proofs.Rounding.{floor-unique, floor-lo, floor-hi}
 use Rattle.earth.specs.Minutes.{minutesOf}
 use Rattle.earth.specs.DelaunayArguments.{argumentOf, argumentsOf}

@@ -4,7 +4,7 @@ use crate::ticks::arguments_at;
 use std::num::wrapping_add_u32;
 use whole::divide::round_div;
 ghost use mathlib.Core.Path.{_≡_};
-ghost use Prim.Native.Nat.{_*_, _^_, _≤_, _<_};
+ghost use Prim.Native.Nat.{_^_, _≤_, _<_};
 ghost use lib.IntN.{pos, _*ℤ_};
 ghost use Rattle.whole.specs.Whole.{∣_∣, modZ};
 ghost use Rattle.earth.specs.Rows.{rows};

@@ -1,12 +1,11 @@
 -- `earth::rotate` meets its contract.
 use borrow.Author.Needs.{needs}
-use mathlib.Core.Path.{_≡_, ap, _∙_}
+use mathlib.Core.Path.{ap, _∙_}
 use mathlib.Core.List.{[], _∷_}
 use Prim.Native.Nat.{_^_}
-use lib.IntN.{ℤ, pos, negℤ, +ℤ-idl}
+use lib.IntN.{pos, negℤ, +ℤ-idl}
 use Rattle.whole.proofs.Linear.{ret}
 use Rattle.whole.proofs.Machine.{M, lit, var, _⊟_, ok, is}
-use Rattle.sine.specs.Sine.{sineOf, cosineOf}
 use Rattle.sine.proofs.Laws.{sine-size}
 use Rattle.earth.specs.Rotation.{rotationOf}
 use Rattle.earth.proofs.rotate.Statement.{statement}

@@ -1,12 +1,12 @@
 -- `earth::rows::tide_at_minute` meets its contract.
 use borrow.Author.Needs.{needs}
-use mathlib.Core.Path.{_≡_, sym, ap, _∙_}
-use Prim.Native.Nat.{ℕ, _*_, _^_, _≤_}
+use mathlib.Core.Path.{_≡_, ap, _∙_}
+use Prim.Native.Nat.{_*_, _^_, _≤_}
 use native.Mathlib.Omega.{arith}
 use lib.IntN.{ℤ, pos, _*ℤ_}
-use Rattle.whole.specs.Whole.{∣_∣, R}
+use Rattle.whole.specs.Whole.{R}
 use Rattle.whole.proofs.Linear.{back, ret}
-use Rattle.whole.proofs.Machine.{M, lit, var, _⊠_, val, bounded, ok, is}
+use Rattle.whole.proofs.Machine.{M, lit, var, _⊠_, bounded, ok, is}
 use Rattle.earth.specs.DelaunayArguments.{argumentsOf}
 use Rattle.earth.specs.Rows.{rows}
 use Rattle.earth.specs.TideInUT1.{rowsSum, sizes, tideAt}

@@ -1,13 +1,13 @@
 -- `earth::turn::turn_of` meets its contract.
 use mathlib.Core.Path.{_≡_, ap, _∙_}
-use Prim.Native.Nat.{ℕ, _≤_}
+use Prim.Native.Nat.{_≤_}
 use native.Mathlib.Omega.{arith}
 use lib.IntN.{ℤ, pos, negℤ, natAbs, _+ℤ_, _-ℤ_}
 use lib.Signed.{_≤ℤ_}
 use mir.Syntax.{w64}
 use mir.Val.{toZ, ofZ}
 use Rattle.whole.proofs.Linear.{In, back}
-use Rattle.whole.proofs.Quote.{⟨_⟩, #, _⊕_, _⊝_, by≤, of≡}
+use Rattle.whole.proofs.Quote.{⟨_⟩, #, _⊕_, _⊝_, by≤}
 use Rattle.whole.proofs.Machine.{M, lit, raw, _⊞_, _⊟_, val, ok, cast-ok, cast-is}
 use Rattle.earth.specs.Angle.{fmOf}
 use Rattle.earth.proofs.Floors.{leaf}
