@@ -1,6 +1,6 @@
 -- Floors and rests over ℤ: how they move with whole multiples of the divisor and with sums, and that the machine's quotient and remainder of a
 -- number that is not negative are they. Assumes nothing.
-use mathlib.Core.Path.{_≡_, refl, sym, ap, _∙_}
+use mathlib.Core.Path.{_≡_, refl, ap, _∙_}
 use mathlib.Core.Bool.{_&&_}
 use Prim.Native.Nat.{ℕ, _+_, _*_, _/_, _%_, _^_, _≤_, _<_}
 use native.Mathlib.Omega.{arith}

@@ -1,6 +1,9 @@
 pub mod Floors
-pub mod Angle
+pub mod Ranges
+pub mod Epochs
 pub mod Minutes
 pub mod Sums
 pub mod TideInUT1
-pub mod Ranges
+pub mod Angle
+pub mod OneValue
+pub mod Starred

@@ -1,8 +1,8 @@
 -- The minutes of TT of an epoch in the file's range are few. Assumes nothing.
-use Prim.Native.Nat.{ℕ, _≤_}
+use Prim.Native.Nat.{_≤_}
 use native.Mathlib.Omega.{arith}
-use lib.IntN.{ℤ, pos, _+ℤ_, _-ℤ_, _*ℤ_}
-use Rattle.whole.specs.Whole.{P, N, ∣_∣}
+use lib.IntN.{ℤ}
+use Rattle.whole.specs.Whole.{∣_∣}
 use Rattle.whole.proofs.Quote.{E, ⟨_⟩, #, _⊕_, _⊝_, _⊗_, ev, up, dn, bal}
 use Rattle.whole.proofs.Rounding.{floor-abs}
 use Rattle.earth.specs.declared.time.Epoch.{Epoch}

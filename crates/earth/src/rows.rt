@@ -4,9 +4,10 @@ use crate::ticks::arguments_at;
 use std::num::wrapping_add_u32;
 use whole::divide::round_div;
 ghost use mathlib.Core.Path.{_≡_};
-ghost use Prim.Native.Nat.{_*_, _^_, _≤_, _<_};
+ghost use Prim.Native.Nat.{_^_, _≤_, _<_};
 ghost use lib.IntN.{pos, _*ℤ_};
 ghost use Rattle.whole.specs.Whole.{∣_∣, modZ};
+ghost use Rattle.earth.specs.Rows.{rows};
 ghost use Rattle.earth.specs.TideInUT1.{amplitude, rowAngle, rowTerm, rowsSum, sizes, Few, AllFew, tideAt};
 
 // Document 01's rows: multipliers of l, l', F, D, Ω, then A in microseconds.
@@ -96,12 +97,19 @@ pub fn rows_sum(rows: &[[i64; 6]], a: Delaunay) -> i64
     sum
 }
 
+// The rows of the definition.
+fn table() -> [[i64; 6]; 41]
+    ensures { λ r. ⌜ r ≡ rows ⌝ }
+{
+    TABLE
+}
+
 // The tide in nanoseconds, at n minutes of TT.
 pub fn tide_at_minute(n: i64) -> i64
     requires { ⌜ ∣ n ∣ < 2 ^ 26 ⌝ }
     ensures { λ r. ⌜ r ≡ tideAt n ⌝ }
 {
-    let table = TABLE;
+    let table = table();
     let t = rows_sum(&table, arguments_at(n));
     round_div(1000 * t, 1073741824)
 }

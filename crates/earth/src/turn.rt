@@ -1,7 +1,7 @@
 // The rotation angle, of a day and of f microseconds of it.
 ghost use mathlib.Core.Path.{_≡_};
 ghost use Rattle.earth.specs.Ranges.{InDay, InF};
-ghost use Rattle.earth.specs.Angle.{fmOf, eOf, eraOf};
+ghost use Rattle.earth.specs.Angle.{fmOf, eOf};
 
 // fm, by a bias that keeps the dividend from going below 0.
 fn whole_ms(f: i64) -> i64
@@ -11,7 +11,8 @@ fn whole_ms(f: i64) -> i64
     (f + 100000000) / 1000 - 100000
 }
 
-// E. Days are counted from 41,317 and microseconds from 108 s before 0h: each floor moves by a whole number, and nothing is below 0.
+// E. Days are counted from 41,317 and microseconds from 108 s before 0h: each floor moves by a whole number, nothing is below 0, and the
+// constant takes up, modulo 10^17, what was added.
 pub fn turn_of(day: i64, f: i64) -> u64
     requires { ⌜ InDay day × InF f ⌝ }
     ensures { λ r. ⌜ r ≡ eOf day f ⌝ }
@@ -24,12 +25,4 @@ pub fn turn_of(day: i64, f: i64) -> u64
         + 10 * (3125000 * us / 27)
         + 1368905955 * ms / 432;
     sum % 100000000000000000
-}
-
-// ERA.
-pub fn era_of(day: i64, f: i64) -> u32
-    requires { ⌜ InDay day × InF f ⌝ }
-    ensures { λ r. ⌜ r ≡ eraOf day f ⌝ }
-{
-    whole::long::rotation_ticks(turn_of(day, f))
 }

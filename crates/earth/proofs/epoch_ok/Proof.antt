@@ -1,7 +1,6 @@
 -- `earth::epoch_ok` meets its contract.
 use borrow.Author.Needs.{needs}
 use mathlib.Core.Path.{_≡_, sym, _∙_}
-use mathlib.Core.Bool.{true}
 use Rattle.whole.proofs.Linear.{back}
 use Rattle.earth.specs.Ranges.{dayOk, msOk}
 use Rattle.earth.proofs.epoch_ok.Statement.{statement}

@@ -1,10 +1,8 @@
 -- `earth::rows::row_term` meets its contract.
 use borrow.Author.Needs.{needs}
 use mathlib.Core.Path.{_≡_, ap, _∙_}
-use Prim.Native.Nat.{ℕ, _^_}
-use native.Mathlib.Omega.{arith}
+use Prim.Native.Nat.{_^_}
 use lib.IntN.{ℤ, _*ℤ_}
-use Rattle.whole.specs.Whole.{∣_∣}
 use Rattle.whole.proofs.Machine.{M, var, _⊠_, ok, is}
 use Rattle.sine.specs.Sine.{sineOf}
 use Rattle.sine.proofs.Laws.{sine-size}

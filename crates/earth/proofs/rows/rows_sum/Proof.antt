@@ -1,20 +1,20 @@
 -- `earth::rows::rows_sum` meets its contract. The invariant: the sum is that over the first i rows. A signed local stands here as its bits.
 use borrow.Author.Needs.{needs}
-use mathlib.Core.Path.{_≡_, refl, sym, ap, _∙_}
+use mathlib.Core.Path.{_≡_, sym, ap, _∙_}
 use mathlib.Core.List.{List, []}
-use Prim.Native.Nat.{ℕ, _+_, _-_, _^_, _≤_, _<_}
+use Prim.Native.Nat.{ℕ, _+_, _-_, _^_, _≤_}
 use native.Mathlib.Omega.{arith}
-use lib.IntN.{ℤ, pos, _+ℤ_}
+use lib.IntN.{ℤ, _+ℤ_}
 use lib.ListN.{length, getD, take}
 use lib.Seq.{take-length}
 use denote.Ref.{now}
 use mir.Syntax.{w64}
 use mir.Val.{toZ, ofZ}
 use Rattle.whole.specs.Whole.{∣_∣}
-use Rattle.whole.proofs.Machine.{M, var, _⊞_, ok, is, plain}
+use Rattle.whole.proofs.Machine.{M, var, _⊞_, ok, plain}
 use Rattle.whole.proofs.Linear.{back, abs-fits}
 use Rattle.earth.specs.declared.ticks.Delaunay.{Delaunay}
-use Rattle.earth.specs.TideInUT1.{amplitude, rowTerm, rowsSum, sizes}
+use Rattle.earth.specs.TideInUT1.{rowsSum, sizes}
 use Rattle.earth.proofs.Sums.{sum-none, sum-more, sum-most, term-most, sizes-take, size-at}
 use Rattle.earth.proofs.rows.rows_sum.Statement.{statement}
 use Rattle.earth.proofs.rows.rows_sum.Tie as tie

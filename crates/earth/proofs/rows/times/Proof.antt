@@ -1,16 +1,13 @@
 -- `earth::rows::times` meets its contract.
 use borrow.Author.Needs.{needs}
-use mathlib.Core.Path.{_≡_, sym, ap, _∙_}
-use Prim.Native.Nat.{ℕ, _^_, _≤_}
+use mathlib.Core.Path.{ap, _∙_}
+use Prim.Native.Nat.{_^_, _≤_}
 use native.Mathlib.Omega.{arith}
-use lib.IntN.{ℤ, pos, natAbs, _+ℤ_, _*ℤ_}
+use lib.IntN.{ℤ, pos, _*ℤ_}
 use lib.Signed.{_≤ℤ_}
-use mir.Syntax.{w64}
-use mir.Val.{toZ, ofZ}
-use Rattle.whole.specs.Whole.{P, N, ∣_∣, modZ}
-use Rattle.whole.proofs.Linear.{abs-mul≤}
-use Rattle.whole.proofs.Quote.{⟨_⟩, #, _⊕_, _⊗_, by≤}
-use Rattle.whole.proofs.Machine.{M, lit, var, raw, _⊞_, _⊠_, val, bounded, ok, cast-ok, cast-is}
+use Rattle.whole.specs.Whole.{modZ}
+use Rattle.whole.proofs.Quote.{⟨_⟩, #, _⊕_, by≤}
+use Rattle.whole.proofs.Machine.{M, lit, var, _⊞_, _⊠_, val, bounded, ok, cast-ok, cast-is}
 use Rattle.earth.proofs.Floors.{mod-more}
 use Rattle.earth.proofs.rows.times.Statement.{statement}
 use Rattle.earth.proofs.rows.times.Tie as tie

@@ -3,7 +3,7 @@ use borrow.Author.Needs.{needs}
 use mathlib.Core.Path.{_≡_, sym, ap, _∙_}
 use Prim.Native.Nat.{ℕ, _+_, _*_, _/_, _%_, _^_, _<_}
 use native.Mathlib.Omega.{arith}
-use lib.IntN.{ℤ, pos, _*ℤ_}
+use lib.IntN.{_*ℤ_}
 use Rattle.whole.specs.Whole.{modZ}
 use Rattle.whole.proofs.Linear.{back}
 use Rattle.whole.proofs.Rounding.{mod-below, mod-add}

@@ -1,13 +1,13 @@
 -- `earth::turn::turn_of` meets its contract.
 use mathlib.Core.Path.{_≡_, ap, _∙_}
-use Prim.Native.Nat.{ℕ, _≤_}
+use Prim.Native.Nat.{_≤_}
 use native.Mathlib.Omega.{arith}
 use lib.IntN.{ℤ, pos, negℤ, natAbs, _+ℤ_, _-ℤ_}
 use lib.Signed.{_≤ℤ_}
 use mir.Syntax.{w64}
 use mir.Val.{toZ, ofZ}
 use Rattle.whole.proofs.Linear.{In, back}
-use Rattle.whole.proofs.Quote.{⟨_⟩, #, _⊕_, _⊝_, by≤, of≡}
+use Rattle.whole.proofs.Quote.{⟨_⟩, #, _⊕_, _⊝_, by≤}
 use Rattle.whole.proofs.Machine.{M, lit, raw, _⊞_, _⊟_, val, ok, cast-ok, cast-is}
 use Rattle.earth.specs.Angle.{fmOf}
 use Rattle.earth.proofs.Floors.{leaf}
@@ -58,6 +58,17 @@ module _ (c : tie.After-whole-ms) where
   few-ms : natAbs (toZ w64 (ofZ w64 (raw ms))) ≤ 86608000
   few-ms = ms-at-most (c .whole-ms .result) (natAbs (toZ w64 (ofZ w64 (raw ms)))) in-range (cast-is ms tt ms-up)
 
+returns : tie.Need-returns
+returns c =
+    let s = c .before in
+    sum-is (s .args .day) (s .args .f)
+    (natAbs (toZ w64 (ofZ w64 (raw (days s)))))
+    (natAbs (toZ w64 (ofZ w64 (raw (us s)))))
+    (natAbs (toZ w64 (ofZ w64 (raw (ms c)))))
+    (days-is s)
+    (us-is s)
+    (cast-is (ms c) tt (ms-up c) ∙ ap (λ (z : ℤ). z +ℤ pos 108000) (fm c))
+
 sub-days : tie.Need-sub-days
 sub-days c = ok (days c) tt
 
@@ -99,17 +110,6 @@ mul-sum-4 c = omega (arith, few-ms c)
 
 add-sum-3 : tie.Need-add-sum-3
 add-sum-3 c = omega (arith, few-days (c .before), few-us (c .before), few-ms c)
-
-returns : tie.Need-returns
-returns c =
-    let s = c .before in
-    sum-is (s .args .day) (s .args .f)
-    (natAbs (toZ w64 (ofZ w64 (raw (days s)))))
-    (natAbs (toZ w64 (ofZ w64 (raw (us s)))))
-    (natAbs (toZ w64 (ofZ w64 (raw (ms c)))))
-    (days-is s)
-    (us-is s)
-    (cast-is (ms c) tt (ms-up c) ∙ ap (λ (z : ℤ). z +ℤ pos 108000) (fm c))
 
 pub turn-of-spec : {M : Type 1} → statement M
 turn-of-spec =

@@ -23,6 +23,13 @@ module _ (s : tie.Start) where
 back : (f : ℤ) → f +ℤ pos 100000000 +ℤ negℤ (pos 100000) *ℤ pos 1000 ≡ f
 back f = by≡ (⟨ f ⟩ ⊕ # 100000000 ⊕ ⊖ (# 100000) ⊗ # 1000) ⟨ f ⟩ (omega arith)
 
+returns : tie.Need-returns
+returns c =
+    is (ms c) tt
+    ∙ ap (λ (z : ℤ). z -ℤ pos 100000) (quot-floor (val (us c)) 1000 (up c))
+    ∙ sym (floor-more (val (us c)) (negℤ (pos 100000)) 1000 (omega arith))
+    ∙ ap (λ (z : ℤ). floorZ z 1000) (back (c .args .f))
+
 add-result : tie.Need-add-result
 add-result c = ok (us c) tt
 
@@ -31,13 +38,6 @@ div-result c = ok÷ (us c) (lit (pos 1000)) tt
 
 sub-result : tie.Need-sub-result
 sub-result c = ok (ms c) tt
-
-returns : tie.Need-returns
-returns c =
-    is (ms c) tt
-    ∙ ap (λ (z : ℤ). z -ℤ pos 100000) (quot-floor (val (us c)) 1000 (up c))
-    ∙ sym (floor-more (val (us c)) (negℤ (pos 100000)) 1000 (omega arith))
-    ∙ ap (λ (z : ℤ). floorZ z 1000) (back (c .args .f))
 
 pub whole-ms-spec : {M : Type 1} → statement M
 whole-ms-spec = tie.close (tie.spec add-result div-result sub-result returns)

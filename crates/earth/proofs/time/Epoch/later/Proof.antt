@@ -22,6 +22,14 @@ module _ (s : tie.Start) where
   up : pos 0 ≤ℤ val t
   up = by≤ (# 0) (⟨ s .args .self .ms ⟩ ⊕ ⟨ s .args .add ⟩) (omega (arith, s .pre .1 .n-lo, s .pre .2 .n-lo))
 
+returns : tie.Need-returns
+unfolding laterOf
+returns c =
+    let s = c .before .before .before .before in
+    let d = is (day s) tt ∙ ap (λ (z : ℤ). s .args .self .day +ℤ z) (quot-floor (val (t s)) 86400000 (up s)) in
+    let m = rest-is (t s) 86400000 tt tt (up s) in
+    λ i. record { day = d i; ms = m i }
+
 add-t : tie.Need-add-t
 add-t c = ok (t (c .before .before)) tt
 
@@ -33,14 +41,6 @@ add-t5 c = ok (day (c .before .before .before .before)) tt
 
 rem-t6 : tie.Need-rem-t6
 rem-t6 c = ok÷ (t (c .before .before .before .before)) (lit (pos 86400000)) tt
-
-returns : tie.Need-returns
-unfolding laterOf
-returns c =
-    let s = c .before .before .before .before in
-    let d = is (day s) tt ∙ ap (λ (z : ℤ). s .args .self .day +ℤ z) (quot-floor (val (t s)) 86400000 (up s)) in
-    let m = rest-is (t s) 86400000 tt tt (up s) in
-    λ i. record { day = d i; ms = m i }
 
 pub later-spec : {M : Type 1} → statement M
 later-spec = tie.close (tie.spec add-t div-t4 add-t5 rem-t6 returns)

@@ -40,6 +40,15 @@ from-j2000 d u L =
     ((⟨ d ⟩ ⊝ # 51544) ⊗ # 86400000 ⊝ # 43200000 ⊕ ⟨ u ⟩ ⊕ # 32184 ⊕ # 1000 ⊗ ⟨ L ⟩)
     (omega arith)
 
+returns : tie.Need-returns
+unfolding minutesOf
+returns c =
+    let s = c .before .before .before .before in
+    is (n s) tt
+    ∙ ap (λ (z : ℤ). z -ℤ pos 14727600) (quot-floor (val (t s)) 60000 (up s))
+    ∙ sym (floor-more (val (t s)) (negℤ (pos 14727600)) 60000 (omega arith))
+    ∙ ap (λ (z : ℤ). floorZ z 60000) (from-j2000 (s .args .self .day) (s .args .self .ms) (s .args .tai))
+
 sub-result : tie.Need-sub-result
 sub-result c = ok (days (c .before .before)) tt
 
@@ -63,15 +72,6 @@ div-result c = ok÷ (t (c .before .before .before .before)) (lit (pos 60000)) tt
 
 sub-result-2 : tie.Need-sub-result-2
 sub-result-2 c = ok (n (c .before .before .before .before)) tt
-
-returns : tie.Need-returns
-unfolding minutesOf
-returns c =
-    let s = c .before .before .before .before in
-    is (n s) tt
-    ∙ ap (λ (z : ℤ). z -ℤ pos 14727600) (quot-floor (val (t s)) 60000 (up s))
-    ∙ sym (floor-more (val (t s)) (negℤ (pos 14727600)) 60000 (omega arith))
-    ∙ ap (λ (z : ℤ). floorZ z 60000) (from-j2000 (s .args .self .day) (s .args .self .ms) (s .args .tai))
 
 pub minutes-spec : {M : Type 1} → statement M
 minutes-spec =
