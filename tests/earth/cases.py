@@ -9,6 +9,7 @@ For each stands one line: the answer's numbers, the refusal first where the call
 import random
 import struct
 
+from lines import line, text
 from reference import earth
 from reference.sine import TURN, sine
 
@@ -111,4 +112,4 @@ def stdin_of(inputs):
 
 
 def stdout_of(inputs):
-    return "".join(" ".join(map(str, answer(*case))) + "\n" for case in inputs).encode()
+    return text(line(answer(*case)) for case in inputs)

@@ -1,28 +1,20 @@
 """The crate `earth_cases` held to the reference, line by line."""
 
 import rattle
+from lines import difference
 from tally import alone
 
 from . import cases
 
 CRATE = "earth_cases"
-
-
-def first_difference(inputs, wrote, wanted):
-    """The first input whose line differs."""
-    lines, wanted_lines = wrote.split(b"\n"), wanted.split(b"\n")
-    for i, line in enumerate(wanted_lines):
-        if i >= len(lines) or lines[i] != line:
-            case = inputs[i] if i < len(inputs) else "the end"
-            return "%r: wrote %.100r, wanted %.100r" % (case, lines[i] if i < len(lines) else b"", line)
-    return "more lines than inputs"
+WITH_A_DAY = (cases.ARGUMENTS, cases.TIDE, cases.ANGLE, cases.LATER)
 
 
 def counts(inputs):
-    days = [case[1] for case in inputs if case[0] in (cases.ARGUMENTS, cases.TIDE, cases.ANGLE, cases.LATER)]
-    early = sum(day < 51_544 for day in days)
-    refused = sum(cases.answer(*case)[0] == 2 for case in inputs if case[0] in (2, 3, 4, 5))
-    return "%d inputs, %d with a day, %d of these before 51,544, %d refused" % (len(inputs), len(days), early, refused)
+    dated = [case for case in inputs if case[0] in WITH_A_DAY]
+    early = sum(case[1] < 51_544 for case in dated)
+    refused = sum(cases.answer(*case)[0] == 2 for case in dated)
+    return "%d inputs, %d with a day, %d of these before 51,544, %d refused" % (len(inputs), len(dated), early, refused)
 
 
 def run(tally):
@@ -31,7 +23,7 @@ def run(tally):
     wrote, _, status = rattle.run(rattle.command(CRATE), cases.stdin_of(inputs))
     tally.say("earth: " + counts(inputs))
     tally.equal("status of " + CRATE, status, 0)
-    tally.check("earth: every line equal", wrote == wanted, first_difference(inputs, wrote, wanted))
+    tally.check("earth: every line equal", wrote == wanted, difference(wrote, wanted))
 
 
 if __name__ == "__main__":

@@ -1,0 +1,81 @@
+"""What the crate `delay_cases` prints, by the reference.
+
+It reads the number of questions, the questions, six numbers each (what, a, b, c, d, e), and behind them a session file:
+  1 orientation(day a, ms b); 2 delay(station a, station b, source c, day d, ms e); 3 samples(pass a, room of b numbers).
+For 1 and 2 it prints one line, the answer's numbers. For 3 it fills the room with FILLED, prints refusal and samples written, then each number
+of the room on a line of its own.
+"""
+
+import random
+import struct
+
+from lines import line, text
+from reference import delay, earth, session
+
+ORIENTATION, DELAY, SAMPLES = 1, 2, 3
+FILLED = 6_148_914_691_236_517_205
+
+
+def answers(file, questions):
+    for what, a, b, c, d, e in questions:
+        if what == ORIENTATION:
+            yield line(delay.orientation(file, a, b))
+        elif what == DELAY:
+            yield line(delay.delay(file, a, b, c, d, e))
+        else:
+            number, written, room = delay.samples(file, a % 2**64, [FILLED] * b)
+            yield line((number, written))
+            yield from map(str, room)
+
+
+def stdin_of(file, questions):
+    numbers = [len(questions)] + [number for question in questions for number in question]
+    return struct.pack("<%dq" % len(numbers), *numbers) + file
+
+
+def stdout_of(file, questions):
+    return text(answers(file, questions))
+
+
+def some_epoch(numbers, days):
+    """Mostly a day of the file, at times its last, a day out of the file, or one out of range."""
+    day = numbers.choice(days)[0] if numbers.random() < 0.8 else numbers.choice((days[0][0] - 1, days[-1][0] + 1, 41_316, 69_807, -(2**63)))
+    ms = numbers.randrange(earth.DAY_MS) if numbers.random() < 0.8 else numbers.choice((0, 86_399_999, -1, 86_400_000, 2**63 - 1))
+    return (day, ms)
+
+
+def some_name(numbers, records):
+    return numbers.choice(records)[0] if numbers.random() < 0.93 else numbers.choice((0, 1, 65_535, 65_536, -1, 2**63 - 1))
+
+
+def questions_of_lists(numbers, lists):
+    """Questions that a sound file's records suggest."""
+    stations, sources, days, passes = lists
+    for _ in range(3):
+        yield (ORIENTATION, *some_epoch(numbers, days), 0, 0, 0)
+    for _ in range(4):
+        names = [some_name(numbers, stations), some_name(numbers, stations), some_name(numbers, sources)]
+        yield (DELAY, *names, *some_epoch(numbers, days))
+    for index, planned in list(enumerate(passes))[:4]:
+        samples = planned[6]
+        yield (SAMPLES, index, numbers.choice((samples, samples, samples + 3, samples - 1)), 0, 0, 0)
+    yield (SAMPLES, numbers.choice((len(passes), -1)), 2, 0, 0, 0)
+
+
+QUESTIONS_OF_A_REFUSED_FILE = [
+    (ORIENTATION, 51_544, 0, 0, 0, 0),
+    (DELAY, 0, 1, 1, 51_544, 0),
+    (SAMPLES, 0, 2, 0, 0, 0),
+]
+
+
+def questions_of(numbers, file):
+    if session.refusal(file):
+        return QUESTIONS_OF_A_REFUSED_FILE
+    return list(questions_of_lists(numbers, session.sections_of(file)))
+
+
+def cases(files, seed=5_105):
+    """Each file with its questions."""
+    numbers = random.Random(seed)
+    return [(file, questions_of(numbers, file)) for file in files]
