@@ -49,3 +49,8 @@ def count(files):
             for traps in found:
                 counts.update(name for name, set_here in traps.items() if set_here)
     return counts
+
+
+def report(files):
+    counts = count(files)
+    return ["%6d files" % len(files)] + ["%6d %s" % (counts[name], name) for name in sorted(counts)]

@@ -26,15 +26,9 @@ def files(seed=SEED, sound_count=SOUND, each=DAMAGED_OF_EACH_KIND):
     return [encode(session) for session in sessions] + damaged.files(numbers, small, each)
 
 
-def report(made):
-    counts = features.count(made)
-    return ["%6d %s" % (counts[name], name) for name in sorted(counts)]
-
-
 def main():
     made = files()
-    print("%6d files" % len(made))
-    print("\n".join(report(made)))
+    print("\n".join(features.report(made)))
     for folder in sys.argv[1:2]:
         os.makedirs(folder, exist_ok=True)
         for i, file in enumerate(made):

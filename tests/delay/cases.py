@@ -1,14 +1,10 @@
-"""What the crate `delay_cases` prints, by the reference.
-
-It reads the number of questions, the questions, six numbers each (what, a, b, c, d, e), and behind them a session file:
-  1 orientation(day a, ms b); 2 delay(station a, station b, source c, day d, ms e); 3 samples(pass a, room of b numbers).
-For 1 and 2 it prints one line, the answer's numbers. For 3 it fills the room with FILLED, prints refusal and samples written, then each number
-of the room on a line of its own.
-"""
+"""What the crate `delay_cases` prints, by the reference: the format stands in ../README.md."""
 
 import random
 import struct
+from collections import Counter
 
+import generate
 from lines import line, text
 from reference import delay, earth, session
 
@@ -33,8 +29,14 @@ def stdin_of(file, questions):
     return struct.pack("<%dq" % len(numbers), *numbers) + file
 
 
-def stdout_of(file, questions):
-    return text(answers(file, questions))
+def parts_of(stdin):
+    """The session file and the questions of an input."""
+    count = struct.unpack_from("<q", stdin)[0]
+    return (stdin[8 + 48 * count:], list(struct.iter_unpack("<6q", stdin[8:8 + 48 * count])))
+
+
+def printed(stdin):
+    return text(answers(*parts_of(stdin)))
 
 
 def some_epoch(numbers, days):
@@ -75,7 +77,13 @@ def questions_of(numbers, file):
     return list(questions_of_lists(numbers, session.sections_of(file)))
 
 
-def cases(files, seed=5_105):
-    """Each file with its questions."""
+def inputs(seed=5_105):
+    """Each generated file with its questions."""
     numbers = random.Random(seed)
-    return [(file, questions_of(numbers, file)) for file in files]
+    return [stdin_of(file, questions_of(numbers, file)) for file in generate.files()]
+
+
+def report(inputs):
+    asked = Counter(question[0] for stdin in inputs for question in parts_of(stdin)[1])
+    names = {ORIENTATION: "orientation", DELAY: "delay", SAMPLES: "samples"}
+    return ["%6d files" % len(inputs)] + ["%6d questions for %s" % (asked[what], names[what]) for what in names]

@@ -1,10 +1,4 @@
-"""Seeded inputs of the crate `earth_cases`, and what the reference prints for them.
-
-An input is four numbers (what, a, b, c), each 8 bytes, little-endian two's complement:
-  1 sine of tick a; 2 arguments(day a, ms b, tai c); 3 tide(day a, ms b, tai c); 4 angle_at(day a, f b);
-  5 later(day a, ms b, add c); 6 rotate(tick a).
-For each stands one line: the answer's numbers, the refusal first where the call has one.
-"""
+"""Seeded inputs of the crate `earth_cases`, and what the reference prints for them: the format stands in ../README.md."""
 
 import random
 import struct
@@ -107,9 +101,22 @@ def cases(seed=11_501, sound=11_000, damaged=700):
     ]
 
 
-def stdin_of(inputs):
-    return b"".join(struct.pack("<4q", *case) for case in inputs)
+def stdin_of(made):
+    return b"".join(struct.pack("<4q", *case) for case in made)
 
 
-def stdout_of(inputs):
-    return text(line(answer(*case)) for case in inputs)
+def inputs():
+    return [stdin_of(cases())]
+
+
+def printed(stdin):
+    return text(line(answer(*case)) for case in struct.iter_unpack("<4q", stdin))
+
+
+def report(inputs):
+    made = [case for stdin in inputs for case in struct.iter_unpack("<4q", stdin)]
+    dated = [case for case in made if case[0] in (ARGUMENTS, TIDE, ANGLE, LATER)]
+    yield "%6d questions" % len(made)
+    yield "%6d of them with a day" % len(dated)
+    yield "%6d of these before 51,544" % sum(case[1] < 51_544 for case in dated)
+    yield "%6d of these refused" % sum(answer(*case)[0] == 2 for case in dated)

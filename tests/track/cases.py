@@ -1,14 +1,8 @@
-"""What the crate `track_cases` prints, by the reference.
-
-It reads cases until its input ends, each four numbers (what, length, a, b) and then `length` numbers:
-  1 track over the numbers as samples, tolerance a, room of b numbers; 2 predict of the numbers as a lent track at sample a;
-  3 host_at of the same.
-For 1 it fills the room with FILLED and prints refusal and segments written on one line, the room on the next. For 2 it prints refusal and
-ps, for 3 refusal and the 64 bits of each double as an unsigned number. Of a case no list is longer than LONGEST numbers.
-"""
+"""What the crate `track_cases` prints, by the reference: the format stands in ../README.md."""
 
 import random
 import struct
+from collections import Counter
 
 from lines import line, text
 from reference import track
@@ -16,7 +10,6 @@ from reference.whole import R
 
 TRACK, PREDICT, HOST = 1, 2, 3
 FILLED = 6_148_914_691_236_517_205
-LONGEST = 8_200
 
 
 def answers(case):
@@ -36,8 +29,17 @@ def stdin_of(cases):
     )
 
 
-def stdout_of(cases):
-    return text(each for case in cases for each in answers(case))
+def cases_of(stdin):
+    at = 0
+    while at < len(stdin):
+        what, length, a, b = struct.unpack_from("<4q", stdin, at)
+        numbers = list(struct.unpack_from("<%dq" % length, stdin, at + 32))
+        yield (what, numbers, a if what == TRACK else a % 2**64, b)
+        at += 32 + 8 * length
+
+
+def printed(stdin):
+    return text(each for case in cases_of(stdin) for each in answers(case))
 
 
 def document_cases():
@@ -119,3 +121,13 @@ def cases(seed=6_106, tracks=1_500):
         *(some_track_case(numbers) for _ in range(tracks)),
         *lent.cases(numbers),
     ]
+
+
+def inputs():
+    return [stdin_of(cases())]
+
+
+def report(inputs):
+    names = {TRACK: "track", PREDICT: "predict", HOST: "host_at"}
+    found = Counter((case[0], answers(case)[0].split()[0]) for stdin in inputs for case in cases_of(stdin))
+    return ["%6d of %s with answer %s" % (count, names[what], number) for (what, number), count in sorted(found.items())]
