@@ -19,5 +19,5 @@ def compare(tally, crate):
         tally.check("%s, input %d: standard error" % (crate, i), complaint_fits(crate, said, wanted), "%.200r" % said)
     lines = sum(wanted.count(b"\n") for _, wanted in cases)
     tally.say("%s: %d runs, %d lines" % (crate, len(cases), lines))
-    for line in programs.CASES[crate].report([stdin for stdin, _ in cases]):
+    for line in programs.CASES[crate].report(cases):
         tally.say(line)

@@ -129,6 +129,25 @@ def flipped(numbers, lists):
 KINDS = (refused_1, refused_2, refused_3, refused_4, refused_twice, flipped)
 
 
-def files(numbers, sound, each):
-    """`each` damaged files of every kind, each from one of the sound sessions."""
-    return [kind(numbers, numbers.choice(sound)) for kind in KINDS for _ in range(each)]
+def one_too_many(full, place):
+    """A session with as many records as there may be, and one more of one kind, in order with the others."""
+    changed = [list(records) for records in full]
+    first, *rest = changed[place][0]
+    following = {0: changed[place][-1][0] + 1, 1: changed[place][-1][0] + 1, 2: changed[place][-1][0] + 1, 3: first}[place]
+    changed[place].append((following, *rest))
+    return encode(changed)
+
+
+def one_too_few(lists, place):
+    changed = list(lists)
+    changed[place] = lists[place][:SECTIONS[place][2] - 1]
+    return encode(changed)
+
+
+def files(numbers, full, sound, each):
+    """Counts just outside their limits, then `each` damaged files of every kind, each from one of the sound sessions."""
+    return [
+        *(one_too_many(full, place) for place in range(4)),
+        *(one_too_few(numbers.choice(sound), place) for place in range(4)),
+        *(kind(numbers, numbers.choice(sound)) for kind in KINDS for _ in range(each)),
+    ]

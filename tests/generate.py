@@ -21,9 +21,10 @@ SOUND, DAMAGED_OF_EACH_KIND = 330, 45
 
 def files(seed=SEED, sound_count=SOUND, each=DAMAGED_OF_EACH_KIND):
     numbers = random.Random(seed)
-    sessions = sound.sessions(numbers, sound_count)
-    small = [session for session in sessions if len(session[3]) < 5 and max(planned[6] for planned in session[3]) < 100]
-    return [encode(session) for session in sessions] + damaged.files(numbers, small, each)
+    full = sound.full_session(numbers)
+    sessions = [full, *sound.sessions(numbers, sound_count)]
+    small = [session for session in sessions if len(session[3]) < 13 and max(planned[6] for planned in session[3]) < 100]
+    return [encode(session) for session in sessions] + damaged.files(numbers, full, small, each)
 
 
 def main():

@@ -1,7 +1,7 @@
 """The Rattle programs that are held to the reference: for each crate the module that makes its inputs and says what it prints.
 
-Such a module has inputs(), the standard inputs of its runs, printed(stdin), what the reference prints for one, and report(inputs),
-lines that say what is in them.
+Such a module has inputs(), the standard inputs of its runs, printed(stdin), what the reference prints for one, and report(cases),
+lines that say what is in a list of inputs with what was printed.
 """
 
 from functools import cache

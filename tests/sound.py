@@ -3,7 +3,9 @@
 Passes of them may be refused: some name an id that is not there, some reach an epoch that the orientation days do not cover.
 """
 
+from reference.delay import orientation_of
 from reference.earth import DAY_MS
+from reference.sine import TURN, cosine
 
 GREATEST_LENGTH = 6_400_000_000
 GREATEST_POLE = 1_000_000
@@ -77,7 +79,7 @@ def two_names(numbers, stations):
 def some_start(numbers, days):
     """The epoch of a pass: mostly early enough, near midnight, or on, before or after the last day."""
     first, last = days[0][0], days[-1][0]
-    ms = numbers.choice((0, DAY_MS - 1, numbers.randint(DAY_MS - 600_000, DAY_MS - 1), numbers.randrange(DAY_MS)))
+    ms = numbers.choice((0, DAY_MS // 2, DAY_MS - 1, numbers.randint(DAY_MS - 600_000, DAY_MS - 1), numbers.randrange(DAY_MS)))
     late = numbers.choice((last, last, first - 1, last + 1)) if numbers.random() < 0.06 else numbers.randint(first, last - 1)
     return (min(max(late, 41_317), 69_806), ms)
 
@@ -109,7 +111,8 @@ def some_session(numbers):
 
 def full_session(numbers):
     """As many records of each kind as a file can hold, in passes of one or two samples."""
-    lists = (some_stations(numbers, 64), some_sources(numbers, 256), some_days(numbers, 64))
+    days = [(50_000 + i, *wild_day(numbers)) for i in range(64)]
+    lists = (some_stations(numbers, 64), some_sources(numbers, 256), days)
     passes = [some_pass(numbers, lists) for _ in range(64)]
     return (*lists, [planned[:6] + (numbers.randint(1, 2),) + planned[7:] for planned in passes])
 
@@ -139,6 +142,21 @@ def last_day_session(numbers, ms, samples):
     return (*lists, [pass_of(lists, ms, 1_000, samples, 3), pass_of(lists, 0, 1, 1, 0)])
 
 
+def tick_of_a_half():
+    """A tick whose cosine is one half exactly."""
+    return next(tick for tick in range(TURN // 6 - 50, TURN // 6 + 50) if cosine(tick) == QUARTER // 2)
+
+
+def halves_session(numbers):
+    """Odd baselines along one axis, each seen where the cosine is one half: the projection lies midway between two millimetres."""
+    days = [(60_000, 0, 0, numbers.randint(-(10**8), 10**8), 37), (60_001, 0, 0, 0, 37)]
+    *_, angle = orientation_of(*days, 0)
+    stations = [(1, 0, 0, 0), (2, 7, 0, 0), (3, -5, 0, 0), (4, 2_000_001, 0, 0), (5, -6_399_999_999, 0, 0)]
+    sources = [(1, (angle - tick_of_a_half()) % TURN, 0), (2, (angle + tick_of_a_half()) % TURN, tick_of_a_half())]
+    passes = [(one, two, source, 60_000, 0, 1, 1, 0) for one, two in ((1, 2), (2, 1), (1, 3), (4, 1), (1, 4), (5, 1)) for source in (1, 2)]
+    return (stations, sources, days, passes)
+
+
 def zero_session():
     """Zero is a value: a station at 0, 0, 0 and days of zeros."""
     days = [(41_317, 0, 0, 0, 0), (41_318, 0, 0, 0, 0)]
@@ -149,7 +167,7 @@ def sessions(numbers, count):
     """All sound sessions: the chosen ones, then `count` seeded ones."""
     return [
         zero_session(),
-        full_session(numbers),
+        halves_session(numbers),
         *(long_session(numbers, step, 4_096) for step in (1, 1_000, 1_000, 7_919, 20_000, 60_000)),
         *(long_session(numbers, step, 1_030) for step in (10, 1_000, 30_000)),
         hour_session(numbers, 1_512),

@@ -42,7 +42,7 @@ def printed(stdin):
 def some_epoch(numbers, days):
     """Mostly a day of the file, at times its last, a day out of the file, or one out of range."""
     day = numbers.choice(days)[0] if numbers.random() < 0.8 else numbers.choice((days[0][0] - 1, days[-1][0] + 1, 41_316, 69_807, -(2**63)))
-    ms = numbers.randrange(earth.DAY_MS) if numbers.random() < 0.8 else numbers.choice((0, 86_399_999, -1, 86_400_000, 2**63 - 1))
+    ms = numbers.randrange(earth.DAY_MS) if numbers.random() < 0.7 else numbers.choice((0, 43_200_000, 86_399_999, -1, 86_400_000, 2**63 - 1))
     return (day, ms)
 
 
@@ -58,7 +58,7 @@ def questions_of_lists(numbers, lists):
     for _ in range(4):
         names = [some_name(numbers, stations), some_name(numbers, stations), some_name(numbers, sources)]
         yield (DELAY, *names, *some_epoch(numbers, days))
-    for index, planned in list(enumerate(passes))[:4]:
+    for index, planned in list(enumerate(passes))[:12]:
         samples = planned[6]
         yield (SAMPLES, index, numbers.choice((samples, samples, samples + 3, samples - 1)), 0, 0, 0)
     yield (SAMPLES, numbers.choice((len(passes), -1)), 2, 0, 0, 0)
@@ -83,7 +83,16 @@ def inputs(seed=5_105):
     return [stdin_of(file, questions_of(numbers, file)) for file in generate.files()]
 
 
-def report(inputs):
-    asked = Counter(question[0] for stdin in inputs for question in parts_of(stdin)[1])
+def refusals(stdin, stdout):
+    """What was asked and the number that came back, for each question."""
+    lines = iter(stdout.split(b"\n"))
+    for question in parts_of(stdin)[1]:
+        yield (question[0], int(next(lines).split()[0]))
+        for _ in range(question[2] if question[0] == SAMPLES else 0):
+            next(lines)
+
+
+def report(cases):
     names = {ORIENTATION: "orientation", DELAY: "delay", SAMPLES: "samples"}
-    return ["%6d files" % len(inputs)] + ["%6d questions for %s" % (asked[what], names[what]) for what in names]
+    found = Counter(pair for case in cases for pair in refusals(*case))
+    return ["%6d files" % len(cases)] + ["%6d of %s with answer %d" % (found[pair], names[pair[0]], pair[1]) for pair in sorted(found)]

@@ -113,8 +113,8 @@ def printed(stdin):
     return text(line(answer(*case)) for case in struct.iter_unpack("<4q", stdin))
 
 
-def report(inputs):
-    made = [case for stdin in inputs for case in struct.iter_unpack("<4q", stdin)]
+def report(cases):
+    made = [case for stdin, _ in cases for case in struct.iter_unpack("<4q", stdin)]
     dated = [case for case in made if case[0] in (ARGUMENTS, TIDE, ANGLE, LATER)]
     yield "%6d questions" % len(made)
     yield "%6d of them with a day" % len(dated)

@@ -14,5 +14,5 @@ def printed(file):
     return text(program.lines(file))
 
 
-def report(files):
-    return features.report(files)
+def report(cases):
+    return features.report([file for file, _ in cases])

@@ -29,5 +29,5 @@ def inputs():
     return generate.files()
 
 
-def report(files):
-    return features.report(files)
+def report(cases):
+    return features.report([file for file, _ in cases])

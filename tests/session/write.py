@@ -67,6 +67,6 @@ def inputs():
     return [write_input(flats, room) for flats, room in write_cases(generate.files())]
 
 
-def report(inputs):
-    numbers = Counter(printed(stdin).split()[0].decode() for stdin in inputs)
-    return ["%6d answers %s" % (count, number) for number, count in sorted(numbers.items())]
+def report(cases):
+    numbers = Counter(int(stdout.split()[0]) for _, stdout in cases)
+    return ["%6d answers %d" % (numbers[number], number) for number in sorted(numbers)]

@@ -127,7 +127,7 @@ def inputs():
     return [stdin_of(cases())]
 
 
-def report(inputs):
+def report(cases):
     names = {TRACK: "track", PREDICT: "predict", HOST: "host_at"}
-    found = Counter((case[0], answers(case)[0].split()[0]) for stdin in inputs for case in cases_of(stdin))
-    return ["%6d of %s with answer %s" % (count, names[what], number) for (what, number), count in sorted(found.items())]
+    found = Counter((case[0], int(answers(case)[0].split()[0])) for stdin, _ in cases for case in cases_of(stdin))
+    return ["%6d of %s with answer %d" % (found[pair], names[pair[0]], pair[1]) for pair in sorted(found)]
