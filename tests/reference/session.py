@@ -11,7 +11,6 @@ from .whole import within
 
 LONGEST_FILE = 65_536
 CONTENTS_BYTES = 104
-CONTENTS_WORDS = 13
 
 ID = (1, 65_535)
 LENGTH = (-6_400_000_000, 6_400_000_000)
@@ -37,43 +36,27 @@ def word(file, at):
     return struct.unpack_from("<q", file, at)[0]
 
 
-def words_there(file):
-    """The words of the contents table that are wholly in the file."""
-    return [word(file, 8 * i) for i in range(min(CONTENTS_WORDS, len(file) // 8))]
-
-
-def wrong_word(words):
-    """The first wrong word of a contents table, as far as the table goes; none if all are right."""
-    if words and words[0] != len(SECTIONS):
-        return 0
-    body = CONTENTS_BYTES
-    for place, (kind, fields, least, greatest) in enumerate(SECTIONS):
-        entry = words[1 + 3 * place:4 + 3 * place]
-        if len(entry) > 0 and entry[0] != kind:
-            return 1 + 3 * place
-        if len(entry) > 1 and entry[1] != body:
-            return 2 + 3 * place
-        if len(entry) > 2 and not within(entry[2], least, greatest):
-            return 3 + 3 * place
-        if len(entry) < 3:
-            return None
-        body += entry[2] * 8 * len(fields)
-    return None
+def contents_table(file):
+    """The 13 words of the contents table; a byte that is not there is read as 0."""
+    return struct.unpack("<13q", file[:CONTENTS_BYTES].ljust(CONTENTS_BYTES, bytes(1)))
 
 
 def fault_of_contents(file):
-    """The first wrong word of the contents table, 0 to 12, 13 where the length alone is wrong, or none.
-
-    A word that is not wholly in the file is no wrong word: such a file is too short.
-    """
-    words = words_there(file)
-    wrong = wrong_word(words)
-    if wrong is not None:
-        return wrong
-    if len(words) < CONTENTS_WORDS or len(file) > LONGEST_FILE:
-        return 13
-    bodies = sum(words[3 + 3 * place] * 8 * len(fields) for place, (_, fields, _, _) in enumerate(SECTIONS))
-    return None if len(file) == CONTENTS_BYTES + bodies else 13
+    """The first wrong word of the contents table, 0 to 12, then 13 for the length; none where all is right."""
+    words = contents_table(file)
+    if words[0] != len(SECTIONS):
+        return 0
+    body = CONTENTS_BYTES
+    for place, (kind, fields, least, greatest) in enumerate(SECTIONS):
+        at = 1 + 3 * place
+        if words[at] != kind:
+            return at
+        if words[at + 1] != body:
+            return at + 1
+        if not within(words[at + 2], least, greatest):
+            return at + 2
+        body += words[at + 2] * 8 * len(fields)
+    return None if len(file) == body and len(file) <= LONGEST_FILE else 13
 
 
 def sections_of(file):
