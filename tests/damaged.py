@@ -133,9 +133,15 @@ def one_too_many(full, place):
     """A session with as many records as there may be, and one more of one kind, in order with the others."""
     changed = [list(records) for records in full]
     first, *rest = changed[place][0]
-    following = {0: changed[place][-1][0] + 1, 1: changed[place][-1][0] + 1, 2: changed[place][-1][0] + 1, 3: first}[place]
+    following = first if place == 3 else changed[place][-1][0] + 1
     changed[place].append((following, *rest))
     return encode(changed)
+
+
+def over_long(lists):
+    """Bytes behind a sound file: up to the greatest length of any file, a byte past it, and far past it."""
+    file = encode(lists)
+    return [file.ljust(length, bytes(1)) for length in (65_536, 65_537, 200_000)]
 
 
 def one_too_few(lists, place):
@@ -145,8 +151,9 @@ def one_too_few(lists, place):
 
 
 def files(numbers, full, sound, each):
-    """Counts just outside their limits, then `each` damaged files of every kind, each from one of the sound sessions."""
+    """Over-long files, counts just outside their limits, then `each` damaged files of every kind, made from the sound sessions."""
     return [
+        *over_long(numbers.choice(sound)),
         *(one_too_many(full, place) for place in range(4)),
         *(one_too_few(numbers.choice(sound), place) for place in range(4)),
         *(kind(numbers, numbers.choice(sound)) for kind in KINDS for _ in range(each)),

@@ -1,4 +1,4 @@
-"""The reference held to values of ERFA, a library that none of us wrote; era.c and delay.c made the values that are stored here."""
+"""The reference held to values of ERFA, a library that none of us wrote; the C programs beside this file made the values that are stored here."""
 
 import os
 from fractions import Fraction
@@ -16,6 +16,13 @@ TWO_PI = Fraction(314159265358979323846264338327950288, 5 * 10**34)
 # 2^-48 turn; half a dozen of them stay below 2/10^14 turn.
 ERA_DISTANCE = Fraction(4, 10**11)
 ERFA_ROUNDING = Fraction(2, 10**14)
+
+
+# The terms in t^2 and in t^3 and beyond of the five arguments, in arcseconds, which document 01 leaves out; rounded up
+NAMES = ("l", "l'", "F", "D", "Omega")
+TERMS_LEFT_OUT = tuple((Fraction(square), Fraction(cube)) for square, cube in (
+    ("31.88", "0.052"), ("0.554", "0.0002"), ("12.752", "0.0011"), ("6.371", "0.0067"), ("7.473", "0.0078"),
+))
 
 
 def stored(name):
@@ -39,6 +46,28 @@ def rotation_angle(tally):
         worst = max(worst, apart)
         tally.check("erfa: rotation angle", apart <= ERA_DISTANCE + ERFA_ROUNDING, "day %d f %d: %.3g turn" % (day, f, apart))
     tally.say("erfa: %d rotation angles, the furthest %.3g turn from ERFA's" % (len(rows), worst))
+
+
+def turns_between(tick, radians):
+    gap = (Fraction(tick, 2**32) - Fraction(float(radians)) / TWO_PI) % 1
+    return min(gap, 1 - gap)
+
+
+def allowed_argument(n, square, cube):
+    """A tick, the fifth decimal that document 01 leaves out, ERFA's rounding, and the terms in t^2 and beyond, in turns."""
+    t = abs(Fraction(n, 52_596_000))
+    return Fraction(1, 2**32) + Fraction(1, 10**9) + (square * t * t + cube * t * t * t) / 1_296_000
+
+
+def delaunay_arguments(tally):
+    rows = stored("arguments.txt")
+    tally.check("erfa: the stored arguments are those of the inputs", [(int(row[0]),) for row in rows] == inputs.argument_inputs())
+    for n, *radians in rows:
+        ticks = earth.five_arguments(int(n))
+        for name, tick, value, (square, cube) in zip(NAMES, ticks, radians, TERMS_LEFT_OUT):
+            apart = turns_between(tick, value)
+            tally.check("erfa: argument " + name, apart <= allowed_argument(int(n), square, cube), "n %s: %.3g turn" % (n, apart))
+    tally.say("erfa: %d arguments, apart from ERFA's by no more than the terms that document 01 leaves out" % (5 * len(rows)))
 
 
 def delay_without_tide(values):
@@ -72,6 +101,7 @@ def plane_wave(tally):
 
 def run(tally):
     rotation_angle(tally)
+    delaunay_arguments(tally)
     plane_wave(tally)
 
 

@@ -1,4 +1,4 @@
-"""The inputs of the two ERFA programs: `python3 -m erfa.inputs era` or `.. delay` prints them."""
+"""The inputs of the ERFA programs: `python3 -m erfa.inputs era`, `.. arguments` or `.. delay` prints them."""
 
 import random
 import sys
@@ -11,6 +11,11 @@ def era_inputs():
     days = [*range(41_317, 69_806, 219), 51_543, 51_544, 51_545, 69_806]
     times = (-100_000_000, -1, 0, 1, 999, 1_000, 21_600_123_457, 43_200_000_000, 77_777_777_777, 86_399_999_999, 86_500_000_000)
     return [(day, f) for day in days for f in times]
+
+
+def argument_inputs():
+    """Minutes of TT from J2000 over the file range, and those about 0."""
+    return [(n,) for n in sorted({*range(-14_727_000, 26_300_000, 160_001), -1, 0, 1})]
 
 
 def some_stations(numbers):
@@ -43,5 +48,5 @@ def delay_inputs(seed=2_110, count=600):
 
 
 if __name__ == "__main__":
-    for values in {"era": era_inputs, "delay": delay_inputs}[sys.argv[1]]():
+    for values in {"era": era_inputs, "arguments": argument_inputs, "delay": delay_inputs}[sys.argv[1]]():
         print(*values)
