@@ -9,15 +9,19 @@ from unittest.mock import patch
 import programs
 import wrong.delay
 import wrong.earth
+import wrong.program
 import wrong.session
 import wrong.track
+import wrong.write
 from tally import alone
 
 WRONG = {
     "earth_cases": wrong.earth.WRONG,
     "session_cases": wrong.session.WRONG,
+    "write_cases": wrong.write.WRONG,
     "delay_cases": wrong.delay.WRONG,
     "track_cases": wrong.track.WRONG,
+    "tracks": wrong.program.WRONG,
 }
 
 

@@ -36,5 +36,6 @@ def command(name):
 
 def run(words, stdin):
     """What a program writes to standard output and standard error, and its status, given the bytes on its standard input."""
-    done = subprocess.run(words, input=stdin, capture_output=True, timeout=120)
+    plain = {name: value for name, value in os.environ.items() if not name.startswith("QEMU_")}
+    done = subprocess.run(words, input=stdin, capture_output=True, timeout=120, env=plain)
     return (done.stdout, done.stderr, done.returncode)

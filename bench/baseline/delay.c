@@ -64,11 +64,14 @@ static int64_t delay_of(struct wave w, struct base_earth at) {
     return picoseconds(g);
 }
 
+/* The lower of two refusal numbers, of which 0 stands for none. */
+static int64_t lower(int64_t a, int64_t b) { return a == 0 || (b != 0 && b < a) ? b : a; }
+
 static const struct minute none = {INT64_MIN, 0};
 
 struct base_earth base_orientation(const uint8_t *file, size_t n, int64_t day, int64_t ms) {
-    int64_t refusal = base_check(file, n).refusal;
-    if (refusal == 0 && !(base_day_in_range(day) && base_ms_in_range(ms))) refusal = 2;
+    int in_range = base_day_in_range(day) && base_ms_in_range(ms);
+    int64_t refusal = lower(base_check(file, n).refusal, in_range ? 0 : 2);
     if (refusal == 0 && !covered(two_days(file, day))) refusal = 6;
     if (refusal != 0) return (struct base_earth){refusal, 0, 0, 0, 0};
     struct minute kept = none;
@@ -78,10 +81,9 @@ struct base_earth base_orientation(const uint8_t *file, size_t n, int64_t day, i
 static int is_id(int64_t name) { return 1 <= name && name <= 65535; }
 
 struct base_number base_delay(const uint8_t *file, size_t n, int64_t station1, int64_t station2, int64_t source, int64_t day, int64_t ms) {
-    int64_t refusal = base_check(file, n).refusal;
+    int in_range = is_id(station1) && is_id(station2) && is_id(source) && base_day_in_range(day) && base_ms_in_range(ms);
+    int64_t refusal = lower(base_check(file, n).refusal, in_range ? 0 : 2);
     if (refusal != 0) return (struct base_number){refusal, 0};
-    if (!(is_id(station1) && is_id(station2) && is_id(source) && base_day_in_range(day) && base_ms_in_range(ms)))
-        return (struct base_number){2, 0};
     const uint8_t *one = named(file, 0, station1), *two = named(file, 0, station2), *star = named(file, 1, source);
     struct day d = two_days(file, day);
     struct minute kept = none;

@@ -64,8 +64,11 @@ def questions_of_lists(numbers, lists):
     yield (SAMPLES, numbers.choice((len(passes), -1)), 2, 0, 0, 0)
 
 
+# An argument out of range is 2, which is lower than a file's 3 or 4 and higher than its 1.
 QUESTIONS_OF_A_REFUSED_FILE = [
     (ORIENTATION, 51_544, 0, 0, 0, 0),
+    (ORIENTATION, 51_544, -1, 0, 0, 0),
+    (DELAY, 1, 1, 1, 51_544, 0),
     (DELAY, 0, 1, 1, 51_544, 0),
     (SAMPLES, 0, 2, 0, 0, 0),
 ]

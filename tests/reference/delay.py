@@ -59,25 +59,28 @@ def two_days(days, day):
     return None if today is None or tomorrow is None else (today, tomorrow)
 
 
+def lowest(*numbers):
+    """The lowest refusal number of those that apply; 0 stands for none."""
+    return min((number for number in numbers if number), default=0)
+
+
 def orientation(file, day, ms):
     """Refusal, x, y, UT1-UTC used, ERA."""
-    number = session.refusal(file)
-    if number == 0 and not earth.epoch_in_range(day, ms):
-        number = 2
-    if number == 0 and two_days(session.sections_of(file)[DAYS], day) is None:
-        number = 6
+    number = lowest(session.refusal(file), 0 if earth.epoch_in_range(day, ms) else 2)
     if number:
         return (number, 0, 0, 0, 0)
-    return (0, *orientation_of(*two_days(session.sections_of(file)[DAYS], day), ms))
+    days = two_days(session.sections_of(file)[DAYS], day)
+    if days is None:
+        return (6, 0, 0, 0, 0)
+    return (0, *orientation_of(*days, ms))
 
 
 def delay(file, name1, name2, source_name, day, ms):
     """Refusal and the delay."""
-    number = session.refusal(file)
+    in_range = all(within(name, 1, 65_535) for name in (name1, name2, source_name)) and earth.epoch_in_range(day, ms)
+    number = lowest(session.refusal(file), 0 if in_range else 2)
     if number:
         return (number, 0)
-    if not (all(within(name, 1, 65_535) for name in (name1, name2, source_name)) and earth.epoch_in_range(day, ms)):
-        return (2, 0)
     lists = session.sections_of(file)
     station1, station2 = named(lists[STATIONS], name1), named(lists[STATIONS], name2)
     source = named(lists[SOURCES], source_name)

@@ -71,9 +71,14 @@ def room_one_short(file, index, room):
     return (number, written, after[:len(room)])
 
 
-def ids_before_file(file, name1, name2, source, day, ms):
-    """Arguments are judged before the file."""
-    return (2, 0) if name1 == 0 else RIGHT_DELAY_CALL(file, name1, name2, source, day, ms)
+def arguments_first(file, *asked):
+    """Arguments are judged before the file, also where the file's number is 1."""
+    return (2, 0) if asked[0] == 0 else RIGHT_DELAY_CALL(file, *asked)
+
+
+def file_first(file, *asked):
+    """The file's 3 or 4 is given although an argument is out of range."""
+    return (session.refusal(file), 0) if session.refusal(file) else RIGHT_DELAY_CALL(file, *asked)
 
 
 WRONG = (
@@ -92,6 +97,7 @@ WRONG = (
     ("the last day covered at 0h", delay, "two_days", last_day_at_0h),
     ("coverage judged at the first sample", delay, "samples_of", first_epoch_only),
     ("room for one sample too few", delay, "samples", room_one_short),
-    ("arguments judged before the file", delay, "delay", ids_before_file),
+    ("2 given for a file that is refused with 1", delay, "delay", arguments_first),
+    ("3 or 4 given where 2 applies", delay, "delay", file_first),
     ("every refused file is 2", session, "refusal", lambda file: 2 if session.fault(file)[0] else 0),
 )
