@@ -37,12 +37,15 @@ def word(file, at):
 
 
 def contents_table(file):
-    """The 13 words of the contents table; a byte that is not there is read as 0."""
-    return struct.unpack("<13q", file[:CONTENTS_BYTES].ljust(CONTENTS_BYTES, bytes(1)))
+    """The 13 words of the contents table, none for a word that is not wholly in the file."""
+    return [word(file, 8 * i) if 8 * i + 8 <= len(file) else None for i in range(13)]
 
 
 def fault_of_contents(file):
-    """The first wrong word of the contents table, 0 to 12, then 13 for the length; none where all is right."""
+    """The first wrong word of the contents table, 0 to 12, then 13 for the length; none where all is right.
+
+    A word that is not wholly in the file is wrong.
+    """
     words = contents_table(file)
     if words[0] != len(SECTIONS):
         return 0
@@ -53,7 +56,7 @@ def fault_of_contents(file):
             return at
         if words[at + 1] != body:
             return at + 1
-        if not within(words[at + 2], least, greatest):
+        if words[at + 2] is None or not within(words[at + 2], least, greatest):
             return at + 2
         body += words[at + 2] * 8 * len(fields)
     return None if len(file) == body and len(file) <= LONGEST_FILE else 13
