@@ -69,11 +69,11 @@ static void fill(size_t m) {
 }
 
 static void delay(void) {
-    size_t questions = (size_t)number(0), start = 8 + 48 * questions, n = length - start;
-    const uint8_t *file = input + start;
-    for (size_t q = 0; q < questions; q++) {
+    size_t n = (size_t)number(0);
+    const uint8_t *file = input + 8;
+    for (size_t at = 8 + n; at + 48 <= length; at += 48) {
         int64_t a[6];
-        for (size_t i = 0; i < 6; i++) a[i] = number(1 + 6 * q + i);
+        for (size_t i = 0; i < 6; i++) a[i] = base_word(input, at + 8 * i);
         if (a[0] == 1) {
             struct base_earth e = base_orientation(file, n, a[1], a[2]);
             printf("%" PRId64 " %" PRId64 " %" PRId64 " %" PRId64 " %" PRIu32 "\n", e.refusal, e.x, e.y, e.ut1_utc, e.tick);

@@ -25,14 +25,13 @@ def answers(file, questions):
 
 
 def stdin_of(file, questions):
-    numbers = [len(questions)] + [number for question in questions for number in question]
-    return struct.pack("<%dq" % len(numbers), *numbers) + file
+    return struct.pack("<q", len(file)) + file + b"".join(struct.pack("<6q", *question) for question in questions)
 
 
 def parts_of(stdin):
     """The session file and the questions of an input."""
-    count = struct.unpack_from("<q", stdin)[0]
-    return (stdin[8 + 48 * count:], list(struct.iter_unpack("<6q", stdin[8:8 + 48 * count])))
+    end = 8 + struct.unpack_from("<q", stdin)[0]
+    return (stdin[8:end], list(struct.iter_unpack("<6q", stdin[end:])))
 
 
 def printed(stdin):
@@ -83,7 +82,8 @@ def questions_of(numbers, file):
 def inputs(seed=5_105):
     """Each generated file with its questions."""
     numbers = random.Random(seed)
-    return [stdin_of(file, questions_of(numbers, file)) for file in generate.files()]
+    files = [file[:session.LONGEST_FILE + 1] for file in generate.files()]
+    return [stdin_of(file, questions_of(numbers, file)) for file in files]
 
 
 def refusals(stdin, stdout):
