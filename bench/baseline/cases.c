@@ -55,7 +55,7 @@ static void write_file(void) {
     const int64_t *lists[4];
     size_t lengths[4], at = 5, m = (size_t)number(4);
     for (size_t i = 0; i < 4; i++) {
-        lengths[i] = (size_t)number(i);
+        lengths[i] = i < 3 ? (size_t)number(i) : 5 + (size_t)number(3) - at;
         lists[i] = numbers[i];
         for (size_t j = 0; j < lengths[i]; j++) numbers[i][j] = number(at++);
     }

@@ -12,17 +12,16 @@ FILLED = 165
 
 
 def write_input(flats, room):
-    numbers = [len(flat) for flat in flats] + [room] + [number for flat in flats for number in flat]
-    return struct.pack("<%dq" % len(numbers), *numbers)
+    first, second, third, _ = (len(flat) for flat in flats)
+    numbers = [number for flat in flats for number in flat]
+    return struct.pack("<%dq" % (5 + len(numbers)), first, second, third, len(numbers), room, *numbers)
 
 
 def printed(stdin):
-    numbers = struct.unpack("<%dq" % (len(stdin) // 8), stdin)
-    flats, start = [], 5
-    for length in numbers[:4]:
-        flats.append(list(numbers[start:start + length]))
-        start += length
-    number, written, after = session.write(flats, bytes([FILLED]) * numbers[4])
+    first, second, third, _, room, *numbers = struct.unpack("<%dq" % (len(stdin) // 8), stdin)
+    ends = (0, first, first + second, first + second + third, len(numbers))
+    flats = [numbers[ends[i]:ends[i + 1]] for i in range(4)]
+    number, written, after = session.write(flats, bytes([FILLED]) * room)
     return text([line((number, written))] + [after[i:i + 32].hex() for i in range(0, len(after), 32)])
 
 
