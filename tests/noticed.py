@@ -17,10 +17,10 @@ from tally import alone
 
 WRONG = {
     "earth_cases": wrong.earth.WRONG,
-    "session_cases": wrong.session.WRONG,
-    "write_cases": wrong.write.WRONG,
-    "delay_cases": wrong.delay.WRONG,
-    "track_cases": wrong.track.WRONG,
+    "session_answers": wrong.session.WRONG,
+    "write_answers": wrong.write.WRONG,
+    "delay_answers": wrong.delay.WRONG,
+    "track_answers": wrong.track.WRONG,
     "tracks": wrong.program.WRONG,
 }
 
@@ -31,7 +31,7 @@ def short_inputs(crate):
     if crate == "earth_cases":
         made = module.cases()
         return [module.stdin_of(made[i:i + 100]) for i in range(0, 2_000, 100)]
-    if crate == "track_cases":
+    if crate == "track_answers":
         return [module.stdin_of([case]) for case in module.cases()]
     return [stdin for stdin, stdout in programs.expected(crate) if len(stdout) < 3_000]
 

@@ -15,10 +15,10 @@ import track.cases
 
 CASES = {
     "earth_cases": earth.cases,
-    "session_cases": session.cases,
-    "write_cases": session.write,
-    "delay_cases": delay.cases,
-    "track_cases": track.cases,
+    "session_answers": session.cases,
+    "write_answers": session.write,
+    "delay_answers": delay.cases,
+    "track_answers": track.cases,
     "tracks": program.cases,
 }
 

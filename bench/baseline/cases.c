@@ -1,6 +1,6 @@
 /* Answers the questions of the tests with the baseline, in the formats of tests/README.md:
-   `cases earth`, `cases check` (the first line of session_cases alone), `cases write`, `cases delay`,
-   `cases pairs` and `cases hulls` (the tracks of track_cases; predictions are not asked). */
+   `cases earth`, `cases check` (the first line of session_answers alone), `cases write`, `cases delay`,
+   `cases pairs` and `cases hulls` (the tracks of track_answers; predictions are not asked). */
 #include "baseline.h"
 
 #include <inttypes.h>

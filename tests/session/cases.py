@@ -1,4 +1,4 @@
-"""What the crate `session_cases` prints, by the reference: the format stands in ../README.md."""
+"""What the crate `session_answers` prints, by the reference: the format stands in ../README.md."""
 
 import features
 import generate

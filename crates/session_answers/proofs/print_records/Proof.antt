@@ -1,8 +1,8 @@
--- `session_cases::print_records` is safe and ends: the measure is how far the index is from 1,000.
+-- `session_answers::print_records` is safe and ends: the measure is how far the index is from 1,000.
 use Prim.Native.Nat.{_-_}
 use native.Mathlib.Omega.{arith}
-use Rattle.session_cases.proofs.print_records.Statement.{statement}
-use Rattle.session_cases.proofs.print_records.Tie as tie
+use Rattle.session_answers.proofs.print_records.Statement.{statement}
+use Rattle.session_answers.proofs.print_records.Tie as tie
 
 abbrev Inv-loop : tie.InvT-loop
 Inv-loop file place i₀ i = Unit {0}
