@@ -1,0 +1,103 @@
+// Answers questions on Earth rotation, four numbers each, one line for an answer: tests/README.md has the format.
+use libc::STDOUT_FILENO;
+use session::words::bits_at;
+use session::words::number_at;
+
+fn print(n: i64) {
+    if n < 0 {
+        io::write_all(STDOUT_FILENO, b"-");
+    }
+    io::print_decimal(STDOUT_FILENO, whole::sign::size(n));
+}
+
+fn print_next(n: i64) {
+    io::write_all(STDOUT_FILENO, b" ");
+    print(n);
+}
+
+fn print_tick(t: u32) {
+    print_next(t as i64);
+}
+
+fn print_arguments(a: earth::TicksAnswer) {
+    print(a.refusal);
+    print_next(a.n);
+    print_tick(a.l);
+    print_tick(a.lp);
+    print_tick(a.f);
+    print_tick(a.d);
+    print_tick(a.om);
+}
+
+fn print_number(a: earth::NumberAnswer) {
+    print(a.refusal);
+    print_next(a.value);
+}
+
+fn print_angle(a: earth::AngleAnswer) {
+    print(a.refusal);
+    print_next(a.e);
+    print_tick(a.tick);
+}
+
+fn print_epoch(a: earth::EpochAnswer) {
+    print(a.refusal);
+    print_next(a.day);
+    print_next(a.ms);
+}
+
+fn print_rotation(m: [[i64; 3]; 3]) {
+    print(m[0][0]);
+    print_next(m[0][1]);
+    print_next(m[0][2]);
+    print_next(m[1][0]);
+    print_next(m[1][1]);
+    print_next(m[1][2]);
+    print_next(m[2][0]);
+    print_next(m[2][1]);
+    print_next(m[2][2]);
+}
+
+// A negative tick is read modulo 2^32.
+fn tick(bits: u64) -> u32 {
+    (bits % 4294967296) as u32
+}
+
+fn answer(what: i64, t: u32, a: i64, b: i64, c: i64) {
+    match what {
+        1 => print(sine::sine(t)),
+        2 => print_arguments(earth::arguments(a, b, c)),
+        3 => print_number(earth::tide(a, b, c)),
+        4 => print_angle(earth::angle_at(a, b)),
+        5 => print_epoch(earth::later(a, b, c)),
+        _ => print_rotation(earth::rotate(t)),
+    }
+    io::write_all(STDOUT_FILENO, b"\n");
+}
+
+// Reads one question and answers it; whether there was one.
+fn answer_next() -> bool {
+    let mut question = [0u8; 32];
+    let n = io::read_full(0, &mut question);
+    if n < 32 {
+        return false;
+    }
+    let what = number_at(&question, 0);
+    let a = number_at(&question, 8);
+    let b = number_at(&question, 16);
+    let c = number_at(&question, 24);
+    answer(what, tick(bits_at(&question, 8)), a, b, c);
+    true
+}
+
+// Nothing says that an input ends, so the questions are counted, from a number that no run uses up.
+fn answer_all() {
+    let mut left = u64::MAX;
+    while left > 0 && answer_next() {
+        left -= 1;
+    }
+}
+
+fn main() {
+    answer_all();
+}

@@ -1,0 +1,160 @@
+"""Seeded session files that the check refuses, made from sound ones.
+
+Each function takes the four lists of a sound session and hands back the bytes of a damaged file; most are named after the refusal
+number that they aim at. What number a file really gets is the reference's to say.
+"""
+
+import struct
+
+from reference.session import CONTENTS_BYTES, SECTIONS, encode
+
+EXTREMES = (-(2**63), 2**63 - 1, -1, 0, 2**32, 2**61, -(2**61))
+
+
+def with_word(file, index, value):
+    return file[:8 * index] + struct.pack("<q", value) + file[8 * index + 8:]
+
+
+def wrong_contents(numbers, lists):
+    """One word of the contents table changed."""
+    index, file = numbers.randrange(13), encode(lists)
+    right = struct.unpack_from("<q", file, 8 * index)[0]
+    near = (right + 1, right - 1, right + 8, right + 24, 65, 257)
+    return with_word(file, index, numbers.choice([value for value in near + EXTREMES if value != right]))
+
+
+def wrong_length(numbers, lists):
+    """Cut short, or with bytes behind."""
+    file = encode(lists)
+    cut = numbers.choice((0, 7, 8, 50, 103, CONTENTS_BYTES, len(file) - 8, len(file) - 1, numbers.randrange(len(file))))
+    more = bytes(numbers.choice((1, 8, 64, 65_536 - len(file), 65_537 - len(file))))
+    return file[:cut] if numbers.random() < 0.6 else file + more
+
+
+def wrong_count(numbers, lists):
+    """A count outside its limits in a file that is otherwise in order."""
+    place = numbers.randrange(4)
+    _, fields, least, greatest = SECTIONS[place]
+    count = numbers.choice((least - 1, greatest + 1, greatest + 2))
+    changed = list(lists)
+    changed[place] = [numbers.choice(lists[place]) for _ in range(count)]
+    return encode(changed)
+
+
+def wrong_order(numbers, lists):
+    """Two kinds exchanged, each with its own body."""
+    places = numbers.sample(range(4), 2)
+    file = encode(lists)
+    first, second = (struct.unpack_from("<3q", file, 8 + 24 * place) for place in places)
+    for place, entry in zip(places, (second, first)):
+        file = file[:8 + 24 * place] + struct.pack("<3q", *entry) + file[32 + 24 * place:]
+    return file
+
+
+def refused_1(numbers, lists):
+    return numbers.choice((wrong_contents, wrong_contents, wrong_length, wrong_length, wrong_count, wrong_order))(numbers, lists)
+
+
+def wrong_field(numbers, lists):
+    """The lists with one field outside its range, and the place where."""
+    place = numbers.randrange(4)
+    record = numbers.randrange(len(lists[place]))
+    fields = SECTIONS[place][1]
+    field = numbers.randrange(len(fields))
+    low, high = fields[field]
+    outside = [value for value in (low - 1, high + 1) + EXTREMES if not low <= value <= high]
+    changed = [list(records) for records in lists]
+    row = list(changed[place][record])
+    row[field] = numbers.choice(outside)
+    changed[place][record] = tuple(row)
+    return changed
+
+
+def refused_2(numbers, lists):
+    return encode(wrong_field(numbers, lists))
+
+
+def ids_that_fall(numbers, lists):
+    """The lists with two equal or exchanged ids in section 1 or 2."""
+    changed = [list(records) for records in lists]
+    place = numbers.randrange(2)
+    records = changed[place]
+    if len(records) == 1:
+        records.append(records[0])
+    else:
+        i = numbers.randrange(len(records) - 1)
+        other = records[i + 1][0] if numbers.random() < 0.5 else records[i][0]
+        records[i], records[i + 1] = (other, *records[i][1:]), (records[i][0], *records[i + 1][1:])
+    return changed
+
+
+def refused_3(numbers, lists):
+    return encode(ids_that_fall(numbers, lists))
+
+
+def days_that_jump(numbers, lists):
+    """The lists with a day repeated, left out, or out of order."""
+    changed = [list(records) for records in lists]
+    days = changed[2]
+    i = numbers.randrange(1, len(days))
+    shift = numbers.choice((-1, 1, -2, 30))
+    days[i:] = [(min(max(day[0] + shift, 41_317), 69_806), *day[1:]) for day in days[i:]]
+    if numbers.random() < 0.3:
+        days.reverse()
+    return changed
+
+
+def refused_4(numbers, lists):
+    return encode(days_that_jump(numbers, lists))
+
+
+def refused_twice(numbers, lists):
+    """Two or three kinds of damage in one file: the lowest number counts."""
+    changed = lists
+    for damage in numbers.sample((wrong_field, ids_that_fall, days_that_jump), numbers.randint(2, 3)):
+        changed = damage(numbers, changed)
+    if numbers.random() < 0.2:
+        return wrong_contents(numbers, changed)
+    return encode(changed)
+
+
+def flipped(numbers, lists):
+    """Up to three bits flipped anywhere, as a bad disc would do."""
+    file = bytearray(encode(lists))
+    for _ in range(numbers.randint(1, 3)):
+        file[numbers.randrange(len(file))] ^= 1 << numbers.randrange(8)
+    return bytes(file)
+
+
+KINDS = (refused_1, refused_2, refused_3, refused_4, refused_twice, flipped)
+
+
+def one_too_many(full, place):
+    """A session with as many records as there may be, and one more of one kind, in order with the others."""
+    changed = [list(records) for records in full]
+    first, *rest = changed[place][0]
+    following = first if place == 3 else changed[place][-1][0] + 1
+    changed[place].append((following, *rest))
+    return encode(changed)
+
+
+def over_long(lists):
+    """Bytes behind a sound file: up to the greatest length of any file, a byte past it, and far past it."""
+    file = encode(lists)
+    return [file.ljust(length, bytes(1)) for length in (65_536, 65_537, 200_000)]
+
+
+def one_too_few(lists, place):
+    changed = list(lists)
+    changed[place] = lists[place][:SECTIONS[place][2] - 1]
+    return encode(changed)
+
+
+def files(numbers, full, sound, each):
+    """Over-long files, counts just outside their limits, then `each` damaged files of every kind, made from the sound sessions."""
+    return [
+        *over_long(numbers.choice(sound)),
+        *(one_too_many(full, place) for place in range(4)),
+        *(one_too_few(numbers.choice(sound), place) for place in range(4)),
+        *(kind(numbers, numbers.choice(sound)) for kind in KINDS for _ in range(each)),
+    ]

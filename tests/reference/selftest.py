@@ -1,0 +1,75 @@
+"""The numbers of document 01, 'Numbers to meet', starred and not, held to the reference."""
+
+from tally import alone
+
+from . import delay, earth, program, session, track
+from .sine import sine
+
+
+def sines(tally):
+    for tick, value in ((0, 0), (1, 1), (2, 3), (3, 4), (2**32 - 1, -1), (2**31 + 2, -3)):
+        tally.equal("sine of tick %d" % tick, sine(tick), value)
+
+
+def minutes_and_arguments(tally):
+    tally.equal("l at n = 0", earth.five_arguments(0)[0], 1_610_176_110)
+    for ms, n in ((43_135_815, -1), (43_135_816, 0), (43_195_815, 0), (43_195_816, 1)):
+        tally.equal("n at millisecond %d" % ms, earth.arguments(51_544, ms, 32)[:2], (0, n))
+
+
+def angles(tally):
+    tally.equal("angle at noon", earth.angle_at(51_544, 43_200_000_000), (0, 77_905_727_326_332_276, 3_346_025_510))
+    tally.equal("angle at 0h", earth.angle_at(51_544, 0)[2], 1_192_662_456)
+
+
+def numbers(count):
+    return [-7] * count
+
+
+def tracks(tally):
+    cases = (
+        ([0, 10, 20], 0, [(0, 3, 0, 655_360)]),
+        ([0, 0, 1], 0, [(0, 2, 0, 0), (2, 1, 65_536, 0)]),
+        ([0, 0, 1], 1, [(0, 3, 65_536, -32_768)]),
+        ([0, 10, 0], 5, [(0, 3, 327_680, 0)]),
+        ([0, 10, 0], 4, [(0, 2, 262_144, 131_072), (2, 1, -262_144, 0)]),
+        ([0] * 1_025, 0, [(0, 1_024, 0, 0), (1_024, 1, 0, 0)]),
+    )
+    for samples, tolerance, segments in cases:
+        name = "track of %.20s tolerance %d" % (samples, tolerance)
+        flat = [number for segment in segments for number in segment]
+        for spare in range(4):
+            room = numbers(len(flat) + spare)
+            tally.equal(name, track.track(samples, tolerance, room), (0, len(segments), flat + numbers(spare)))
+        short = numbers(len(flat) - 1)
+        tally.equal(name + ", room short", track.track(samples, tolerance, short), (8, 0, short))
+    tally.equal("track of no samples", track.track([], 0, numbers(8)), (2, 0, numbers(8)))
+    tally.equal("prediction", track.predict([0, 3, 65_536, -32_768], 1), (0, 1))
+
+
+def small_session(samples=3, tolerance=0):
+    """One station, one source, two days, one pass of that station with itself."""
+    return session.encode((
+        [(1, 4_075_539_757, 931_735_390, 4_801_629_449)],
+        [(1, 0, 0)],
+        [(51_544, 0, 0, 0, 32), (51_545, 0, 0, 0, 32)],
+        [(1, 1, 1, 51_544, 0, 1_000, samples, tolerance)],
+    ))
+
+
+def the_program(tally):
+    file = small_session()
+    tally.equal("length of the small session", len(file), 304)
+    tally.equal("tracks of the small session", program.lines(file), ["pass 0 1", "0 3 0 0"])
+    tally.equal("tracks of nothing", program.lines(b""), ["refused 1"])
+    tally.equal("tracks of over-long input", program.lines(file + bytes(65_536)), ["refused 1"])
+    tally.equal("samples of the small session", delay.samples(file, 0, [5] * 4), (0, 3, [0, 0, 0, 5]))
+
+
+def run(tally):
+    for part in (sines, minutes_and_arguments, angles, tracks, the_program):
+        part(tally)
+
+
+if __name__ == "__main__":
+    alone(run)

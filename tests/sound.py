@@ -1,0 +1,178 @@
+"""Seeded session files that the check accepts, as four lists of records.
+
+Passes of them may be refused: some name an id that is not there, some reach an epoch that the orientation days do not cover.
+"""
+
+from reference.delay import orientation_of
+from reference.earth import DAY_MS
+from reference.sine import TURN, cosine
+
+GREATEST_LENGTH = 6_400_000_000
+GREATEST_POLE = 1_000_000
+QUARTER = 2**30
+
+
+def some_ids(numbers, count):
+    return sorted(numbers.sample(range(1, 65_536), count))
+
+
+def some_length(numbers):
+    """A coordinate: anywhere, at an end of the range, or 0."""
+    edge = numbers.choice((-GREATEST_LENGTH, 0, GREATEST_LENGTH))
+    return edge if numbers.random() < 0.15 else numbers.randint(-GREATEST_LENGTH, GREATEST_LENGTH)
+
+
+def some_stations(numbers, count):
+    return [(name, *(some_length(numbers) for _ in range(3))) for name in some_ids(numbers, count)]
+
+
+def some_sources(numbers, count):
+    def declination():
+        edge = numbers.choice((-QUARTER, 0, QUARTER, -1))
+        return edge if numbers.random() < 0.15 else numbers.randint(-QUARTER, QUARTER)
+
+    return [(name, numbers.randrange(2**32), declination()) for name in some_ids(numbers, count)]
+
+
+def wild_day(numbers):
+    """Pole and UT1-UTC anywhere, or at the ends of their ranges; TAI-UTC anywhere."""
+    pole = [numbers.choice((-GREATEST_POLE, GREATEST_POLE, numbers.randint(-GREATEST_POLE, GREATEST_POLE))) for _ in range(2)]
+    ut1 = numbers.choice((-900_000_000, 900_000_000, 0, numbers.randint(-900_000_000, 900_000_000)))
+    return (*pole, ut1, numbers.randint(0, 99))
+
+
+def calm_days(numbers, count):
+    """Values that move as the Earth's do, with a leap second at times."""
+    x, y, ut1, tai = 130_000, 330_000, numbers.randint(-300_000_000, 300_000_000), numbers.randint(10, 37)
+    days = []
+    for _ in range(count):
+        days.append((x, y, ut1, tai))
+        x, y, ut1 = x + numbers.randint(-2_500, 2_500), y + numbers.randint(-2_500, 2_500), ut1 - numbers.randint(0, 2_500_000)
+        if numbers.random() < 0.05:
+            ut1, tai = ut1 + 1_000_000_000, tai + 1
+        if not -900_000_000 <= ut1 <= 900_000_000:
+            ut1 = 0
+    return days
+
+
+def some_days(numbers, count):
+    """Consecutive days, two in five of them before 51,544, now and then at an end of the range."""
+    low, high = numbers.choice(((41_317, 51_540), (41_317, 51_540), (51_540, 51_544), (51_545, 69_700), (51_545, 69_700)))
+    first = numbers.choice((41_317, 69_807 - count)) if numbers.random() < 0.08 else numbers.randint(low, high)
+    values = calm_days(numbers, count) if numbers.random() < 0.5 else [wild_day(numbers) for _ in range(count)]
+    return [(first + i, *value) for i, value in enumerate(values)]
+
+
+def some_name(numbers, records):
+    """An id of the records; now and then any id."""
+    return numbers.randint(1, 65_535) if numbers.random() < 0.03 else numbers.choice(records)[0]
+
+
+def two_names(numbers, stations):
+    """The stations of a pass: mostly two that differ."""
+    names = [some_name(numbers, stations) for _ in range(2)]
+    if names[0] == names[1] and len(stations) > 1 and numbers.random() < 0.9:
+        names = [station[0] for station in numbers.sample(stations, 2)]
+    return names
+
+
+def some_start(numbers, days):
+    """The epoch of a pass: mostly early enough, near midnight, or on, before or after the last day."""
+    first, last = days[0][0], days[-1][0]
+    ms = numbers.choice((0, DAY_MS // 2, DAY_MS - 1, numbers.randint(DAY_MS - 600_000, DAY_MS - 1), numbers.randrange(DAY_MS)))
+    late = numbers.choice((last, last, first - 1, last + 1)) if numbers.random() < 0.06 else numbers.randint(first, last - 1)
+    return (min(max(late, 41_317), 69_806), ms)
+
+
+def some_step_and_count(numbers):
+    """Step and samples: mostly few samples, at times an hour a step or many samples."""
+    step = numbers.choice((1, 20, 1_000, 1_000, 10_000, 30_000, 60_000, 600_000, 3_600_000, numbers.randint(1, 3_600_000)))
+    count = numbers.choice((1, 2, 3, numbers.randint(4, 25), numbers.randint(20, 80)))
+    return (step, count)
+
+
+def some_pass(numbers, lists):
+    stations, sources, days = lists
+    day, ms = some_start(numbers, days)
+    tolerance = numbers.choice((0, 1, 5, 30, 1_000, 50_000, 1_000_000))
+    names = [*two_names(numbers, stations), some_name(numbers, sources)]
+    return (*names, day, ms, *some_step_and_count(numbers), tolerance)
+
+
+def some_session(numbers):
+    """A session of a few records of each kind."""
+    lists = (
+        some_stations(numbers, numbers.choice((1, 2, 2, 3, 3, 5))),
+        some_sources(numbers, numbers.randint(1, 5)),
+        some_days(numbers, numbers.choice((2, 2, 3, 4, 6))),
+    )
+    return (*lists, [some_pass(numbers, lists) for _ in range(numbers.randint(1, 4))])
+
+
+def full_session(numbers):
+    """As many records of each kind as a file can hold, in passes of one or two samples."""
+    days = [(50_000 + i, *wild_day(numbers)) for i in range(64)]
+    lists = (some_stations(numbers, 64), some_sources(numbers, 256), days)
+    passes = [some_pass(numbers, lists) for _ in range(64)]
+    return (*lists, [planned[:6] + (numbers.randint(1, 2),) + planned[7:] for planned in passes])
+
+
+def pass_of(lists, ms, step, samples, tolerance):
+    """The pass of the first and the last station from the first day on."""
+    stations, sources, days = lists
+    return (stations[0][0], stations[-1][0], sources[0][0], days[0][0], ms, step, samples, tolerance)
+
+
+def long_session(numbers, step, samples):
+    """One pass of many samples."""
+    reach = 2 + (DAY_MS // 2 + (samples - 1) * step) // DAY_MS
+    lists = (some_stations(numbers, 2), some_sources(numbers, 1), some_days(numbers, min(64, reach)))
+    return (*lists, [pass_of(lists, DAY_MS // 2, step, samples, numbers.choice((0, 2, 40)))])
+
+
+def hour_session(numbers, samples):
+    """64 days, and a pass of an hour a step: 1,512 samples are covered, one more is not."""
+    lists = (some_stations(numbers, 2), some_sources(numbers, 1), some_days(numbers, 64))
+    return (*lists, [pass_of(lists, 0, 3_600_000, samples, 1_000_000)])
+
+
+def last_day_session(numbers, ms, samples):
+    """Two days, and a pass a second a step that starts near the end of the first."""
+    lists = (some_stations(numbers, 2), some_sources(numbers, 2), some_days(numbers, 2))
+    return (*lists, [pass_of(lists, ms, 1_000, samples, 3), pass_of(lists, 0, 1, 1, 0)])
+
+
+def tick_of_a_half():
+    """A tick whose cosine is one half exactly."""
+    return next(tick for tick in range(TURN // 6 - 50, TURN // 6 + 50) if cosine(tick) == QUARTER // 2)
+
+
+def halves_session(numbers):
+    """Odd baselines along one axis, each seen where the cosine is one half: the projection lies midway between two millimetres."""
+    days = [(60_000, 0, 0, numbers.randint(-(10**8), 10**8), 37), (60_001, 0, 0, 0, 37)]
+    *_, angle = orientation_of(*days, 0)
+    stations = [(1, 0, 0, 0), (2, 7, 0, 0), (3, -5, 0, 0), (4, 2_000_001, 0, 0), (5, -6_399_999_999, 0, 0)]
+    sources = [(1, (angle - tick_of_a_half()) % TURN, 0), (2, (angle + tick_of_a_half()) % TURN, tick_of_a_half())]
+    passes = [(one, two, source, 60_000, 0, 1, 1, 0) for one, two in ((1, 2), (2, 1), (1, 3), (4, 1), (1, 4), (5, 1)) for source in (1, 2)]
+    return (stations, sources, days, passes)
+
+
+def zero_session():
+    """Zero is a value: a station at 0, 0, 0 and days of zeros."""
+    days = [(41_317, 0, 0, 0, 0), (41_318, 0, 0, 0, 0)]
+    return ([(1, 0, 0, 0)], [(1, 0, 0)], days, [(1, 1, 1, 41_317, 0, 1, 1, 0)])
+
+
+def sessions(numbers, count):
+    """All sound sessions: the chosen ones, then `count` seeded ones."""
+    return [
+        zero_session(),
+        halves_session(numbers),
+        *(long_session(numbers, step, 4_096) for step in (1, 1_000, 1_000, 7_919, 20_000, 60_000)),
+        *(long_session(numbers, step, 1_030) for step in (10, 1_000, 30_000)),
+        hour_session(numbers, 1_512),
+        hour_session(numbers, 1_513),
+        hour_session(numbers, 4_096),
+        *(last_day_session(numbers, DAY_MS - 10_000, samples) for samples in (9, 10, 11)),
+        *(some_session(numbers) for _ in range(count)),
+    ]

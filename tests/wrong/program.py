@@ -1,0 +1,34 @@
+"""Wrong track programs: what is wrong, the module and the function that it stands in for, and the wrong function."""
+
+from reference import program, session
+
+RIGHT_LINES, RIGHT_PASS = program.lines, program.lines_of_pass
+
+
+def ends_at_a_refused_pass(file):
+    made = RIGHT_LINES(file)
+    refused = [i for i, line in enumerate(made) if line.startswith("refused")]
+    return made[:refused[0] + 1] if refused else made
+
+
+def pass_line_kept(lists, index):
+    made = RIGHT_PASS(lists, index)
+    return ["pass %d 0" % index] + made if made[0].startswith("refused") else made
+
+
+def refused_passes_not_counted(file):
+    """The index counts the passes that are printed."""
+    made, index = [], 0
+    for line in RIGHT_LINES(file):
+        if line.startswith("pass"):
+            line, index = "pass %d %s" % (index, line.split()[2]), index + 1
+        made.append(line)
+    return made
+
+
+WRONG = (
+    ("nothing printed after a refused pass", program, "lines", ends_at_a_refused_pass),
+    ("the pass line of a refused pass kept", program, "lines_of_pass", pass_line_kept),
+    ("an index that leaves refused passes out", program, "lines", refused_passes_not_counted),
+    ("a refused file printed as 1 always", session, "refusal", lambda file: 1 if session.fault(file)[0] else 0),
+)
