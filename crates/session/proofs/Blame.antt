@@ -5,12 +5,13 @@ use native.Mathlib.Omega.{arith}
 use mathlib.Core.Bool.{Bool, true, false, cond}
 use mathlib.Core.List.{List}
 use lib.IntN.{ℤ, pos}
-use Rattle.session.specs.Each.{firstNot}
-use Rattle.session.specs.Layouts.{rising, consecutive}
-use Rattle.session.specs.File.{sectionRight, recordRight, fieldRight, orderRight, stepRight, countOf, sizeOf, refusalOf, contentsRight, rangesRight}
+use Rattle.sections.specs.Each.{firstNot}
+use Rattle.sections.specs.Layouts.{rising, consecutive}
+use Rattle.sections.specs.File.{sectionRight, recordRight, fieldRight, orderRight, stepRight, countOf, sizeOf, refusalOf, contentsRight, rangesRight}
 use Rattle.session.specs.Records.{checkOf, countsIn, noCounts}
-use Rattle.session.specs.Fault.{placeOf, wrongWord, rangeFault, orderFault, faultBy, faultOf, rangeRecord, rangeField}
-use Rattle.session.proofs.Search.{first-fails, first-before, not-all}
+use Rattle.sections.specs.Table.{wrongWord}
+use Rattle.session.specs.Fault.{placeOf, rangeFault, orderFault, faultBy, faultOf, rangeRecord, rangeField}
+use Rattle.sections.proofs.Search.{first-fails, first-before, not-all}
 use Rattle.session.proofs.Answers.{check-refused, check-accepted}
 
 -- ---- by the number

@@ -3,22 +3,23 @@ ghost use mathlib.Core.Path.{_≡_};
 ghost use mathlib.Core.Bool.{not};
 ghost use Prim.Native.Nat.{ℕ, _+_, _*_, _<_, _≤_};
 ghost use lib.ListN.{length};
-ghost use Rattle.session.specs.Each.{firstNot};
-ghost use Rattle.session.specs.Words.{numberAt};
-ghost use Rattle.session.specs.Code.{otherBy};
-ghost use Rattle.session.specs.File.{refusalOf, countOf, eqZ};
-ghost use Rattle.session.specs.Records.{stationOf, sourceOf, dayOf, passOf, placeBy, stationBy, sourceBy, dayBy};
+ghost use Rattle.sections.specs.Each.{firstNot};
+ghost use Rattle.sections.specs.Words.{numberAt};
+ghost use Rattle.sections.specs.Code.{otherBy};
+ghost use Rattle.sections.specs.File.{refusalOf, countOf, eqZ};
+ghost use Rattle.session.specs.Records.{stationOf, sourceOf, dayOf, passOf, placeBy, stationBy, sourceBy, dayBy, askedOf};
 use crate::Day;
 use crate::Pass;
 use crate::Source;
 use crate::Station;
-use crate::contents::layout_of;
-use crate::ranges::inside;
-use crate::refusal::count_of;
-use crate::refusal::field_at;
-use crate::refusal::record_byte;
-use crate::words::number_at;
-use crate::words::word_at;
+use sections::contents::layout_of;
+use sections::ranges::inside;
+use sections::refusal::count_of;
+use sections::refusal::field_at;
+use sections::refusal::record_byte;
+use sections::refusal::refusal_of;
+use sections::words::number_at;
+use sections::words::word_at;
 
 pub fn station_of(s: &[u8], i: usize) -> Station
     requires { ⌜ (refusalOf (now s) ≡ 0) × (i < countOf (now s) 0) ⌝ }
@@ -166,4 +167,19 @@ pub fn source_by(s: &[u8], id: i64) -> Source
         right_ascension: 0,
         declination: 0,
     }
+}
+
+// The file's own refusal; then 5 where place p has no record i.
+pub fn asked(s: &[u8], p: usize, i: usize) -> usize
+    requires { ⌜ p < 4 ⌝ }
+    ensures { λ r. ⌜ (r ≡ askedOf (now (s .entry)) p i) × (r ≤ 5) ⌝ }
+{
+    let n = refusal_of(s);
+    if n != 0 {
+        return n;
+    }
+    if i < count_of(s, p) {
+        return 0;
+    }
+    5
 }
