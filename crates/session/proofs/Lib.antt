@@ -1,3 +1,5 @@
 pub mod Fields
 pub mod Answers
 pub mod Blame
+pub mod Laws
+pub mod Past

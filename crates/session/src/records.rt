@@ -169,6 +169,42 @@ pub fn source_by(s: &[u8], id: i64) -> Source
     }
 }
 
+// The record of the day with this MJD, or the number of days.
+fn day_place(s: &[u8], mjd: i64) -> usize
+    requires { ⌜ refusalOf (now s) ≡ 0 ⌝ }
+    ensures { λ r. ⌜ r ≡ placeBy (now (s .entry)) 2 mjd ⌝ }
+{
+    let n = count_of(s, 2);
+    let first = field_at(s, record_byte(s, 2, 0), 0);
+    if mjd < first {
+        return n;
+    }
+    let i = (mjd - first) as usize;
+    if i < n {
+        return i;
+    }
+    n
+}
+
+// The record of the day with this MJD, or refusal 6.
+pub fn day_by(s: &[u8], mjd: i64) -> Day
+    requires { ⌜ refusalOf (now s) ≡ 0 ⌝ }
+    ensures { λ r. ⌜ r ≡ dayBy (now (s .entry)) mjd ⌝ }
+{
+    let i = day_place(s, mjd);
+    if i < count_of(s, 2) {
+        return day_of(s, i);
+    }
+    Day {
+        refusal: 6,
+        mjd: 0,
+        x: 0,
+        y: 0,
+        ut1_utc: 0,
+        tai_utc: 0,
+    }
+}
+
 // The file's own refusal; then 5 where place p has no record i.
 pub fn asked(s: &[u8], p: usize, i: usize) -> usize
     requires { ⌜ p < 4 ⌝ }
