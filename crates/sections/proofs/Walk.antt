@@ -6,6 +6,8 @@ use mathlib.Core.List.{List}
 use lib.ListN.{length}
 use lib.Dec.{leb, ltb, eqb}
 use native.Mathlib.Omega.{arith}
+use native.Mathlib.Decide.{decLt}
+use mathlib.Core.Logic.{_⊎_, inl, inr, ⊎-elim}
 use native.Mathlib.Numerals.{add-one}
 use borrow.Author.Tests.{leb-true, lt-ltb, le-ltb}
 use Rattle.whole.proofs.Products.{below}
@@ -110,3 +112,29 @@ entry-counted s p k e h = first-before 3 2 (entryRight s p) (omega arith) (omega
 
 pub entry-three : (s : List ℕ) (p k : ℕ) → k ≡ firstNot 3 (entryRight s p) → 3 ≤ k → firstNot 3 (entryRight s p) ≡ 3
 entry-three s p k e h = omega (arith, first-most 3 (entryRight s p))
+
+-- ---- back from the first wrong word
+
+by-words : (s : List ℕ) (b : Bool) → Dec (firstNot 13 (wordRight s) < 13) → lengthRight s ≡ b
+    → ((wrongWord s ≡ firstNot 13 (wordRight s)) × (firstNot 13 (wordRight s) < 13))
+    ⊎ ((firstNot 13 (wordRight s) ≡ 13) × (lengthRight s ≡ b) × (wrongWord s ≡ cond b 14 13))
+unfolding wrongWord
+by-words s b (yes l) e = inl (rw (lt-ltb _ _ l), l)
+by-words s b (no l) e =
+    let k : firstNot 13 (wordRight s) ≡ 13 = omega (arith, first-most 13 (wordRight s)) in
+    inr (k, e, rw (k, e))
+
+pub wrong-is : (s : List ℕ) → wrongWord s < 13 → wrongWord s ≡ firstNot 13 (wordRight s)
+wrong-is s h = ⊎-elim (λ w. w .0) (λ w. absurd (not-thirteen (lengthRight s) (wrongWord s) (w .2) h)) (by-words s (lengthRight s) (decLt (firstNot 13 (wordRight s)) 13) refl)
+  where
+    not-thirteen : (b : Bool) (n : ℕ) → n ≡ cond b 14 13 → n < 13 → ⊥
+    not-thirteen true n e l = omega arith
+    not-thirteen false n e l = omega arith
+
+pub wrong-length-is : (s : List ℕ) → wrongWord s ≡ 13 → (firstNot 13 (wordRight s) ≡ 13) × (lengthRight s ≡ false)
+wrong-length-is s h =
+    ⊎-elim (λ w. absurd (omega (arith, w .0, w .1, h))) (λ w. (w .0, short (lengthRight s) (wrongWord s) h (w .2))) (by-words s (lengthRight s) (decLt (firstNot 13 (wordRight s)) 13) refl)
+  where
+    short : (b : Bool) (n : ℕ) → n ≡ 13 → n ≡ cond b 14 13 → b ≡ false
+    short true n h e = absurd (omega arith)
+    short false n h e = refl

@@ -251,15 +251,15 @@ day-number false s i = refl
 module _ (s : List ℕ) (z : ℤ) where
   pub station-there : stationBy s z .refusal ≡ pos 0 → placeBy s 0 z < countOf s 0
   unfolding stationBy
-  station-there e = ltb-true _ _ (chosen (ltb (placeBy s 0 z) (countOf s 0)) 4 (sym (station-number _ s (placeBy s 0 z)) ∙ e))
+  station-there e = ltb-true _ _ (chosen (ltb (placeBy s 0 z) (countOf s 0)) 4 (sym (station-number (ltb (placeBy s 0 z) (countOf s 0)) s (placeBy s 0 z)) ∙ e))
 
   pub source-there : sourceBy s z .refusal ≡ pos 0 → placeBy s 1 z < countOf s 1
   unfolding sourceBy
-  source-there e = ltb-true _ _ (chosen (ltb (placeBy s 1 z) (countOf s 1)) 4 (sym (source-number _ s (placeBy s 1 z)) ∙ e))
+  source-there e = ltb-true _ _ (chosen (ltb (placeBy s 1 z) (countOf s 1)) 4 (sym (source-number (ltb (placeBy s 1 z) (countOf s 1)) s (placeBy s 1 z)) ∙ e))
 
   pub day-there : dayBy s z .refusal ≡ pos 0 → placeBy s 2 z < countOf s 2
   unfolding dayBy
-  day-there e = ltb-true _ _ (chosen (ltb (placeBy s 2 z) (countOf s 2)) 5 (sym (day-number _ s (placeBy s 2 z)) ∙ e))
+  day-there e = ltb-true _ _ (chosen (ltb (placeBy s 2 z) (countOf s 2)) 5 (sym (day-number (ltb (placeBy s 2 z) (countOf s 2)) s (placeBy s 2 z)) ∙ e))
 
   pub station-by : placeBy s 0 z < countOf s 0 → stationBy s z ≡ stationOf s (placeBy s 0 z)
   unfolding stationBy
