@@ -4,3 +4,9 @@ pub mod All
 pub mod Paste
 pub mod Counts
 pub mod Outcomes
+pub mod Tables
+pub mod Sections
+pub mod Again
+pub mod Back
+pub mod RoundTrips
+pub mod Fitting

@@ -9,6 +9,7 @@ ghost use Rattle.writer.specs.Writing.{listsRight, fileOf, writtenAs, ro
 
 pub mod bytes;
 pub mod lists;
+pub mod theorems;
 
 use bytes::copy;
 use bytes::put_numbers;

@@ -4,8 +4,6 @@ use mir.Syntax.{w64}
 use borrow.Author.Needs.{needs}
 use Rattle.writer.proofs.bytes_number.Statement.{statement}
 use Rattle.writer.proofs.bytes_number.Tie as tie
-use Rattle.writer.proofs.bytes_number.Reads as reads
-use Rattle.writer.proofs.bytes_number.Lts as lts
 
 cast-result : tie.Need-cast-result
 cast-result c = search needs

@@ -13,11 +13,6 @@ use mir.Val.{ofZ}
 use borrow.Author.Needs.{needs}
 use Rattle.writer.proofs.encode.Statement.{statement}
 use Rattle.writer.proofs.encode.Tie as tie
-use Rattle.writer.proofs.encode.Reads as reads
-use Rattle.writer.proofs.encode.Lts as lts
-use Rattle.writer.proofs.bytes.put_numbers.Reads as put-numbers-reads
-use Rattle.writer.proofs.bytes.put_words.Reads as put-words-reads
-use Rattle.writer.proofs.lists.contents_for.Reads as contents-for-reads
 
 contents-for-requires : tie.Need-contents-for-requires
 contents-for-requires c κs = search needs

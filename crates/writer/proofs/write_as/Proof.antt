@@ -12,14 +12,6 @@ use Rattle.writer.proofs.Outcomes.{front, refused, done, by-lists, by-f
 use borrow.Author.Needs.{needs}
 use Rattle.writer.proofs.write_as.Statement.{statement}
 use Rattle.writer.proofs.write_as.Tie as tie
-use Rattle.writer.proofs.write_as.Reads as reads
-use Rattle.writer.proofs.write_as.Lts as lts
-use Rattle.sections.proofs.refusal.number.Reads as number-reads
-use Rattle.sections.proofs.refusal.refusal_of.Reads as refusal-of-reads
-use Rattle.writer.proofs.bytes.copy.Reads as copy-reads
-use Rattle.writer.proofs.bytes_number.Reads as bytes-number-reads
-use Rattle.writer.proofs.encode.Reads as encode-reads
-use Rattle.writer.proofs.lists.lists_right.Reads as lists-right-reads
 
 lists-right-requires : tie.Need-lists-right-requires
 lists-right-requires c κs = search needs

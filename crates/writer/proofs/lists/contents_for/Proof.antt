@@ -6,9 +6,6 @@ use Rattle.writer.specs.Writing.{contentsFor}
 use Rattle.writer.proofs.Counts.{lists-right}
 use Rattle.writer.proofs.lists.contents_for.Statement.{statement}
 use Rattle.writer.proofs.lists.contents_for.Tie as tie
-use Rattle.writer.proofs.lists.contents_for.Reads as reads
-use Rattle.writer.proofs.lists.contents_for.Lts as lts
-use Rattle.writer.proofs.lists.count_in.Reads as count-in-reads
 
 count-in-requires : tie.Need-count-in-requires
 count-in-requires c κs = (omega arith, lists-right _ _ _ _ _ (c .pre) .one .size)

@@ -7,9 +7,6 @@ use Rattle.writer.specs.Writing.{sizeIn}
 use borrow.Author.Needs.{needs}
 use Rattle.writer.proofs.lists.count_in.Statement.{statement}
 use Rattle.writer.proofs.lists.count_in.Tie as tie
-use Rattle.writer.proofs.lists.count_in.Reads as reads
-use Rattle.writer.proofs.lists.count_in.Lts as lts
-use Rattle.sections.proofs.layouts.layout_in.Reads as layout-in-reads
 
 layout-in-requires : tie.Need-layout-in-requires
 layout-in-requires c κs = search needs

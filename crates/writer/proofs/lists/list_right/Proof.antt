@@ -9,9 +9,6 @@ use Rattle.writer.proofs.Counts.{list-none, list-broken, list-few, list
 use borrow.Author.Needs.{needs}
 use Rattle.writer.proofs.lists.list_right.Statement.{statement}
 use Rattle.writer.proofs.lists.list_right.Tie as tie
-use Rattle.writer.proofs.lists.list_right.Reads as reads
-use Rattle.writer.proofs.lists.list_right.Lts as lts
-use Rattle.sections.proofs.layouts.layout_in.Reads as layout-in-reads
 
 layout-in-requires : tie.Need-layout-in-requires
 layout-in-requires c κs = search needs

@@ -4,9 +4,6 @@ use Rattle.writer.specs.Writing.{listsRight}
 use borrow.Author.Needs.{needs}
 use Rattle.writer.proofs.lists.lists_right.Statement.{statement}
 use Rattle.writer.proofs.lists.lists_right.Tie as tie
-use Rattle.writer.proofs.lists.lists_right.Reads as reads
-use Rattle.writer.proofs.lists.lists_right.Lts as lts
-use Rattle.writer.proofs.lists.list_right.Reads as list-right-reads
 
 list-right-requires : tie.Need-list-right-requires
 list-right-requires c κs = search needs
