@@ -3,3 +3,4 @@ pub mod Answers
 pub mod Blame
 pub mod Laws
 pub mod Past
+pub mod Promises

@@ -10,3 +10,4 @@ pub mod Again
 pub mod Back
 pub mod RoundTrips
 pub mod Fitting
+pub mod Promises
