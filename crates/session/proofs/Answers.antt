@@ -11,7 +11,7 @@ use mir.Syntax.{w64}
 use mir.Val.{toZ, ofZ}
 use borrow.Author.Tests.{eq-eqb, ne-eqb, eqb-true, lt-ltb, le-ltb, ltb-true}
 use Rattle.whole.proofs.Linear.{ret}
-use Rattle.session.specs.File.{refusalOf, countOf}
+use Rattle.sections.specs.File.{refusalOf, countOf}
 use Rattle.session.specs.Records.{noCounts, countsIn, checkOf, askedOf, stationOf, sourceOf, dayOf, passOf, noStation, noSource, noDay, noPass, stationAt, sourceAt, dayAt, passAt}
 
 -- a number of the code in an answer

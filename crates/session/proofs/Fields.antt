@@ -11,16 +11,16 @@ use lib.Signed.{mag}
 use mir.Syntax.{w64}
 use mir.Val.{toZ, ofZ}
 use Rattle.whole.proofs.Linear.{ret}
-use Rattle.session.specs.Each.{firstNot}
-use Rattle.session.specs.Words.{numberAt}
-use Rattle.session.specs.Layouts.{Layout, station, source, orientation, pass}
-use Rattle.session.specs.File.{contentsRight, kindOf, layoutOf, sizeOf, firstByte, countOf, recordByte, fieldAt, eqZ, refusalOf}
-use Rattle.session.specs.Code.{otherBy}
+use Rattle.sections.specs.Each.{firstNot}
+use Rattle.sections.specs.Words.{numberAt}
+use Rattle.sections.specs.Layouts.{Layout, station, source, orientation, pass}
+use Rattle.sections.specs.File.{contentsRight, kindOf, layoutOf, sizeOf, firstByte, countOf, recordByte, fieldAt, eqZ, refusalOf}
+use Rattle.sections.specs.Code.{otherBy}
 use Rattle.session.specs.Records.{placeBy}
-use Rattle.session.proofs.Search.{first-same}
-use Rattle.session.proofs.Shapes.{in-first, in-second, in-third, in-fourth}
-use Rattle.session.proofs.Sound.{kind-stands}
-use Rattle.session.proofs.Accepted.{accepted-contents}
+use Rattle.sections.proofs.Search.{first-same}
+use Rattle.sections.proofs.Shapes.{in-first, in-second, in-third, in-fourth}
+use Rattle.sections.proofs.Sound.{kind-stands}
+use Rattle.sections.proofs.Accepted.{accepted-contents}
 
 module _ (s : List ℕ) (h : refusalOf s ≡ 0) where
   pub layout-first : layoutOf s 0 ≡ station

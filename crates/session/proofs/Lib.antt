@@ -1,10 +1,6 @@
-pub mod Bits
-pub mod Search
-pub mod Shapes
-pub mod Walk
-pub mod Numbers
-pub mod Sound
-pub mod Accepted
 pub mod Fields
 pub mod Answers
 pub mod Blame
+pub mod Laws
+pub mod Past
+pub mod Promises

@@ -3,16 +3,16 @@ ghost use mathlib.Core.Path.{_≡_};
 ghost use mathlib.Core.Bool.{true};
 ghost use Prim.Native.Nat.{_+_, _-_, _<_, _≤_};
 ghost use lib.IntN.{pos};
-ghost use Rattle.session.specs.Each.{firstNot};
-ghost use Rattle.session.specs.File.{contentsRight, countOf, sizeOf, kindOf, fieldRight, recordRight, stepRight};
+ghost use Rattle.sections.specs.Each.{firstNot};
+ghost use Rattle.sections.specs.File.{contentsRight, countOf, sizeOf, kindOf, fieldRight, recordRight, stepRight};
 ghost use Rattle.session.specs.Fault.{rangeFault, orderFault};
 use crate::Place;
-use crate::contents::layout_of;
-use crate::order::wrong_step;
-use crate::ranges::first_outside;
-use crate::ranges::wrong_record;
-use crate::refusal::number;
-use crate::words::word_at;
+use sections::contents::layout_of;
+use sections::order::wrong_step;
+use sections::ranges::first_outside;
+use sections::ranges::wrong_record;
+use sections::refusal::number;
+use sections::words::word_at;
 
 // The first field of record i of place p that is out of its range, or the number of fields.
 fn wrong_field(s: &[u8], p: usize, i: usize) -> usize

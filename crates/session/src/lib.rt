@@ -3,29 +3,22 @@ ghost use mathlib.Core.Path.{_≡_};
 ghost use Rattle.session.specs.Records.{checkOf, stationAt, sourceAt, dayAt, passAt};
 ghost use Rattle.session.specs.Fault.{faultOf};
 
-pub mod contents;
 pub mod faults;
-pub mod layouts;
-pub mod order;
-pub mod ranges;
 pub mod records;
 
-use contents::wrong_word;
 use faults::order_fault;
 use faults::range_fault;
-use order::wrong_order;
-use ranges::wrong_section;
+use records::asked;
 use records::day_of;
 use records::pass_of;
 use records::source_of;
 use records::station_of;
-use refusal::asked;
-use refusal::count_of;
-use refusal::number;
-use refusal::refusal_of;
-
-pub mod refusal;
-pub mod words;
+use sections::contents::wrong_word;
+use sections::order::wrong_order;
+use sections::ranges::wrong_section;
+use sections::refusal::count_of;
+use sections::refusal::number;
+use sections::refusal::refusal_of;
 
 #[repr(C)]
 pub struct Counts {

@@ -3,22 +3,23 @@ ghost use mathlib.Core.Path.{_≡_};
 ghost use mathlib.Core.Bool.{not};
 ghost use Prim.Native.Nat.{ℕ, _+_, _*_, _<_, _≤_};
 ghost use lib.ListN.{length};
-ghost use Rattle.session.specs.Each.{firstNot};
-ghost use Rattle.session.specs.Words.{numberAt};
-ghost use Rattle.session.specs.Code.{otherBy};
-ghost use Rattle.session.specs.File.{refusalOf, countOf, eqZ};
-ghost use Rattle.session.specs.Records.{stationOf, sourceOf, dayOf, passOf, placeBy, stationBy, sourceBy, dayBy};
+ghost use Rattle.sections.specs.Each.{firstNot};
+ghost use Rattle.sections.specs.Words.{numberAt};
+ghost use Rattle.sections.specs.Code.{otherBy};
+ghost use Rattle.sections.specs.File.{refusalOf, countOf, eqZ};
+ghost use Rattle.session.specs.Records.{stationOf, sourceOf, dayOf, passOf, placeBy, stationBy, sourceBy, dayBy, askedOf};
 use crate::Day;
 use crate::Pass;
 use crate::Source;
 use crate::Station;
-use crate::contents::layout_of;
-use crate::ranges::inside;
-use crate::refusal::count_of;
-use crate::refusal::field_at;
-use crate::refusal::record_byte;
-use crate::words::number_at;
-use crate::words::word_at;
+use sections::contents::layout_of;
+use sections::ranges::inside;
+use sections::refusal::count_of;
+use sections::refusal::field_at;
+use sections::refusal::record_byte;
+use sections::refusal::refusal_of;
+use sections::words::number_at;
+use sections::words::word_at;
 
 pub fn station_of(s: &[u8], i: usize) -> Station
     requires { ⌜ (refusalOf (now s) ≡ 0) × (i < countOf (now s) 0) ⌝ }
@@ -168,12 +169,29 @@ pub fn source_by(s: &[u8], id: i64) -> Source
     }
 }
 
-// The record of a day, or refusal 6.
-pub fn day_by(s: &[u8], day: i64) -> Day
+// The record of the day with this MJD, or the number of days.
+fn day_place(s: &[u8], mjd: i64) -> usize
     requires { ⌜ refusalOf (now s) ≡ 0 ⌝ }
-    ensures { λ r. ⌜ r ≡ dayBy (now (s .entry)) day ⌝ }
+    ensures { λ r. ⌜ r ≡ placeBy (now (s .entry)) 2 mjd ⌝ }
 {
-    let i = place_by(s, 2, day);
+    let n = count_of(s, 2);
+    let first = field_at(s, record_byte(s, 2, 0), 0);
+    if mjd < first {
+        return n;
+    }
+    let i = (mjd - first) as usize;
+    if i < n {
+        return i;
+    }
+    n
+}
+
+// The record of the day with this MJD, or refusal 6.
+pub fn day_by(s: &[u8], mjd: i64) -> Day
+    requires { ⌜ refusalOf (now s) ≡ 0 ⌝ }
+    ensures { λ r. ⌜ r ≡ dayBy (now (s .entry)) mjd ⌝ }
+{
+    let i = day_place(s, mjd);
     if i < count_of(s, 2) {
         return day_of(s, i);
     }
@@ -185,4 +203,19 @@ pub fn day_by(s: &[u8], day: i64) -> Day
         ut1_utc: 0,
         tai_utc: 0,
     }
+}
+
+// The file's own refusal; then 5 where place p has no record i.
+pub fn asked(s: &[u8], p: usize, i: usize) -> usize
+    requires { ⌜ p < 4 ⌝ }
+    ensures { λ r. ⌜ (r ≡ askedOf (now (s .entry)) p i) × (r ≤ 5) ⌝ }
+{
+    let n = refusal_of(s);
+    if n != 0 {
+        return n;
+    }
+    if i < count_of(s, p) {
+        return 0;
+    }
+    5
 }

@@ -3,7 +3,7 @@ use native.Mathlib.Omega.{arith}
 use Prim.Native.Nat.{ℕ}
 use lib.IntN.{pos}
 use Rattle.session.specs.Fault.{rangeFault, orderFault}
-use Rattle.session.proofs.Accepted.{contents-past, no-contents, is-one, is-two, is-three, is-four, is-none}
+use Rattle.sections.proofs.Accepted.{contents-past, no-contents, is-one, is-two, is-three, is-four, is-none}
 use Rattle.session.proofs.Answers.{number-back}
 use Rattle.session.proofs.Blame.{fault-none, fault-word, fault-range, fault-ids, fault-days, section-wrong}
 use borrow.Author.Needs.{needs}

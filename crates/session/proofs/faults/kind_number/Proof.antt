@@ -3,9 +3,9 @@ use Rattle.session.proofs.Answers.{number-back}
 use mathlib.Core.Path.{_≡_, ap, _∙_}
 use native.Mathlib.Omega.{arith}
 use lib.IntN.{pos}
-use Rattle.session.specs.File.{kindOf}
-use Rattle.session.proofs.Shapes.{kind-small}
-use Rattle.session.proofs.Sound.{table-long, kind-stands}
+use Rattle.sections.specs.File.{kindOf}
+use Rattle.sections.proofs.Shapes.{kind-small}
+use Rattle.sections.proofs.Sound.{table-long, kind-stands}
 use borrow.Author.Needs.{needs}
 use Rattle.session.proofs.faults.kind_number.Statement.{statement}
 use Rattle.session.proofs.faults.kind_number.Tie as tie

@@ -2,11 +2,11 @@ use mathlib.Core.Path.{_≡_, refl, ap, sym, _∙_}
 use native.Mathlib.Omega.{arith}
 use Prim.Native.Nat.{ℕ, _+_, _-_}
 use lib.IntN.{pos}
-use Rattle.session.specs.File.{countOf, stepRight}
+use Rattle.sections.specs.File.{countOf, stepRight}
 use Rattle.session.specs.Fault.{orderFault}
 use Rattle.whole.proofs.Linear.{ret}
-use Rattle.session.proofs.Search.{first-most}
-use Rattle.session.proofs.Sound.{counts-most}
+use Rattle.sections.proofs.Search.{first-most}
+use Rattle.sections.proofs.Sound.{counts-most}
 use Rattle.session.proofs.Answers.{number-back}
 use borrow.Author.Needs.{needs}
 use Rattle.session.proofs.faults.order_fault.Statement.{statement}

@@ -2,11 +2,11 @@ use mathlib.Core.Path.{_≡_, ap, sym, _∙_}
 use native.Mathlib.Omega.{arith}
 use Prim.Native.Nat.{ℕ}
 use lib.IntN.{pos}
-use Rattle.session.specs.Each.{firstNot}
-use Rattle.session.specs.File.{sizeOf, fieldRight}
+use Rattle.sections.specs.Each.{firstNot}
+use Rattle.sections.specs.File.{sizeOf, fieldRight}
 use Rattle.session.specs.Fault.{rangeFault}
 use Rattle.whole.proofs.Linear.{ret}
-use Rattle.session.proofs.Sound.{counts-most}
+use Rattle.sections.proofs.Sound.{counts-most}
 use Rattle.session.proofs.Answers.{number-back}
 use borrow.Author.Needs.{needs}
 use Rattle.session.proofs.faults.range_fault.Statement.{statement}

@@ -1,6 +1,6 @@
 use mathlib.Core.Path.{_≡_, ap, _∙_}
 use Rattle.whole.proofs.Linear.{ret}
-use Rattle.session.proofs.Numbers.{inside-same}
+use Rattle.sections.proofs.Numbers.{inside-same}
 use mir.Facts.{toZ-ofZ}
 use borrow.Author.Needs.{needs}
 use Rattle.session.proofs.records.number_is.Statement.{statement}

@@ -2,12 +2,12 @@ use mathlib.Core.Path.{_≡_, ap, sym, _∙_}
 use native.Mathlib.Omega.{arith}
 use Prim.Native.Nat.{ℕ, _*_}
 use mir.Facts.{toZ-ofZ}
-use Rattle.session.specs.Layouts.{shapeOf}
-use Rattle.session.specs.File.{sizeOf, countOf}
+use Rattle.sections.specs.Layouts.{shapeOf}
+use Rattle.sections.specs.File.{sizeOf, countOf}
 use Rattle.session.specs.Records.{placeBy}
-use Rattle.session.specs.declared.layouts.Shape.{Shape}
-use Rattle.session.proofs.Accepted.{accepted-contents}
-use Rattle.session.proofs.Sound.{table-long, body-fits, size-one}
+use Rattle.sections.specs.declared.layouts.Shape.{Shape}
+use Rattle.sections.proofs.Accepted.{accepted-contents}
+use Rattle.sections.proofs.Sound.{table-long, body-fits, size-one}
 use Rattle.session.proofs.Fields.{places-same}
 use borrow.Author.Needs.{needs}
 use Rattle.session.proofs.records.place_by.Statement.{statement}

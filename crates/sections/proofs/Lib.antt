@@ -1,0 +1,7 @@
+pub mod Bits
+pub mod Search
+pub mod Shapes
+pub mod Walk
+pub mod Numbers
+pub mod Sound
+pub mod Accepted

@@ -1,0 +1,89 @@
+-- Tests on whole numbers, as the code makes them. Assumes nothing.
+use mathlib.Core.Path.{_≡_, refl, sym, ap, _∙_, subst}
+use Prim.Native.Nat.{ℕ, zero, suc, _+_, _-_, _*_, _^_, _≤_, _<_}
+use native.Mathlib.Omega.{arith}
+use mathlib.Core.Bool.{Bool, true, false, _&&_, and-true}
+use lib.IntN.{ℤ, pos, negsuc, negℤ, _+ℤ_, _-ℤ_}
+use lib.Signed.{leZ, ltZ}
+use lib.Dec.{T, leb, ltb, eqb}
+use borrow.Author.Tests.{ne-eqb}
+use mir.Syntax.{w64}
+use mir.Val.{SFits}
+use Rattle.whole.specs.Whole.{P, N, ∣_∣}
+use Rattle.whole.proofs.Linear.{zarith, add-law, sub-lawℤ, leZ-true, leZ-false, ltZ-true, ltZ-false, ⇒leZ, ⇒ltZ, ⇒eq, fits-P, fits-N, ⇒sfits}
+use Rattle.sections.specs.File.{eqZ, steps}
+use Rattle.sections.proofs.Search.{both, and-yes, same-test, no-way}
+
+-- a test that holds, as an equation, and back
+pub is-true : (b : Bool) → T b → b ≡ true
+is-true true h = refl
+is-true false h = absurd h
+
+pub le-yes : (a b : ℤ) → P a + N b ≤ P b + N a → leZ a b ≡ true
+le-yes a b h = is-true (leZ a b) (⇒leZ a b h)
+
+le-no′ : (t : Bool) → (t ≡ true → ⊥) → t ≡ false
+le-no′ true h = absurd (h refl)
+le-no′ false h = refl
+
+pub le-no : (a b : ℤ) → P b + N a < P a + N b → leZ a b ≡ false
+le-no a b h = le-no′ (leZ a b) (λ e. let k = leZ-true a b e in omega arith)
+
+pub lt-yes : (a b : ℤ) → P a + N b < P b + N a → ltZ a b ≡ true
+lt-yes a b h = is-true (ltZ a b) (⇒ltZ a b h)
+
+pub eqZ-true : (a b : ℤ) → eqZ a b ≡ true → a ≡ b
+eqZ-true a b h =
+    let w = both (leZ a b) (leZ b a) h in
+    let x = leZ-true a b (w .0) in
+    let y = leZ-true b a (w .1) in
+    ⇒eq a b (omega arith)
+
+pub eqZ-refl : (a b : ℤ) → a ≡ b → eqZ a b ≡ true
+eqZ-refl a b e = rw e (and-yes (le-yes b b (omega arith)) (le-yes b b (omega arith)))
+
+-- ---- b is the number after a
+
+module _ (a b : ℤ) where
+  pub next-no : leZ b a ≡ true → eqZ b (a +ℤ pos 1) ≡ false
+  next-no h =
+      let x = leZ-true b a h in
+      let y = add-law a (pos 1) in
+      le-no′ (eqZ b (a +ℤ pos 1)) (λ e. let z = leZ-true (a +ℤ pos 1) b (both (leZ b (a +ℤ pos 1)) _ e .1) in omega arith)
+
+  module _ (h : leZ b a ≡ false) where
+    pub next-fits : SFits w64 a → SFits w64 b → SFits w64 (b -ℤ pos 1)
+    next-fits f g =
+        let x = leZ-false b a h in
+        let y = sub-lawℤ b (pos 1) in
+        let u = fits-P b g in
+        let v = fits-N a f in
+        ⇒sfits (b -ℤ pos 1) (omega arith) (omega arith)
+
+    pub next-is : leZ (b -ℤ pos 1) a ≡ eqZ b (a +ℤ pos 1)
+    next-is =
+        let x = leZ-false b a h in
+        let y = add-law a (pos 1) in
+        let z = sub-lawℤ b (pos 1) in
+        same-test (leZ (b -ℤ pos 1) a) (eqZ b (a +ℤ pos 1))
+        (λ e. let k = leZ-true (b -ℤ pos 1) a e in and-yes (le-yes b (a +ℤ pos 1) (omega arith)) (le-yes (a +ℤ pos 1) b (omega arith)))
+        (λ e. let k = leZ-true b (a +ℤ pos 1) (both (leZ b (a +ℤ pos 1)) _ e .0) in le-yes (b -ℤ pos 1) a (omega arith))
+
+-- ---- the orders
+
+pub steps-rising : (a b : ℤ) → steps 1 a b ≡ ltZ a b
+unfolding steps
+steps-rising a b = and-true (ltZ a b)
+
+pub steps-consecutive : (a b : ℤ) → steps 2 a b ≡ eqZ b (a +ℤ pos 1)
+unfolding steps
+steps-consecutive a b = refl
+
+pub steps-free : (o : ℕ) (a b : ℤ) → (o ≡ 1 → ⊥) → (o ≡ 2 → ⊥) → steps o a b ≡ true
+unfolding steps
+steps-free o a b h k = rw (ne-eqb o 1 h, ne-eqb o 2 k)
+
+-- ---- a range, with its ends and the number read back
+
+pub inside-same : {a b z a′ b′ z′ : ℤ} → a ≡ a′ → b ≡ b′ → z ≡ z′ → leZ a z && leZ z b ≡ leZ a′ z′ && leZ z′ b′
+inside-same e f g = cc

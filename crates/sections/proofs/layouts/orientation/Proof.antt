@@ -1,0 +1,11 @@
+use mathlib.Core.Path.{refl}
+use Rattle.sections.specs.Layouts.{shapeOf, orientation}
+use Rattle.sections.proofs.layouts.orientation.Statement.{statement}
+use Rattle.sections.proofs.layouts.orientation.Tie as tie
+
+returns : tie.Need-returns
+unfolding shapeOf orientation
+returns c = refl
+
+pub orientation-spec : {M : Type 1} → statement M
+orientation-spec = tie.close (tie.spec returns)

@@ -1,0 +1,11 @@
+use mathlib.Core.Path.{refl}
+use Rattle.sections.specs.Layouts.{shapeOf, pass}
+use Rattle.sections.proofs.layouts.pass.Statement.{statement}
+use Rattle.sections.proofs.layouts.pass.Tie as tie
+
+returns : tie.Need-returns
+unfolding shapeOf pass
+returns c = refl
+
+pub pass-spec : {M : Type 1} → statement M
+pass-spec = tie.close (tie.spec returns)

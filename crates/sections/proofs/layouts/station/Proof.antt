@@ -1,0 +1,11 @@
+use mathlib.Core.Path.{refl}
+use Rattle.sections.specs.Layouts.{shapeOf, station}
+use Rattle.sections.proofs.layouts.station.Statement.{statement}
+use Rattle.sections.proofs.layouts.station.Tie as tie
+
+returns : tie.Need-returns
+unfolding shapeOf station
+returns c = refl
+
+pub station-spec : {M : Type 1} → statement M
+station-spec = tie.close (tie.spec returns)

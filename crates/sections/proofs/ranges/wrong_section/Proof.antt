@@ -1,0 +1,56 @@
+use borrow.Author.Needs.{needs}
+use mathlib.Core.Path.{_≡_, sym}
+use Prim.Native.Nat.{_≤_, _-_}
+use native.Mathlib.Omega.{arith}
+use Rattle.sections.specs.Each.{firstNot}
+use Rattle.sections.specs.File.{sectionRight}
+use Rattle.sections.proofs.Search.{first-zero, first-next, first-hit, failed, passed}
+use Rattle.sections.proofs.ranges.wrong_section.Statement.{statement}
+use Rattle.sections.proofs.ranges.wrong_section.Tie as tie
+
+abbrev Inv-loop : tie.InvT-loop
+Inv-loop s p₀ p = (p ≤ 4) × (firstNot p (sectionRight s) ≡ p)
+
+abbrev μ-loop : tie.MeasureT-loop
+μ-loop s p₀ p = 4 - p
+
+loop-holds : tie.Need-loop-holds Inv-loop μ-loop
+loop-holds c = (search needs, first-zero _)
+
+section-right-requires : tie.Need-section-right-requires Inv-loop μ-loop
+section-right-requires c κs = search needs
+
+returns : tie.Need-returns Inv-loop μ-loop
+returns c =
+    let l = c .before .before in
+    sym (first-hit _ (l .before .loop .p) _ (l .loop-test .taken) (l .before .loop .inv .1) (failed (c .before .section-right .ensures) (c .if1 .taken)))
+
+add-p : tie.Need-add-p Inv-loop μ-loop
+add-p c = search needs
+
+loop-less : tie.Need-loop-less Inv-loop μ-loop
+loop-less c = search needs
+
+loop-again : tie.Need-loop-again Inv-loop μ-loop
+loop-again c =
+    let l = c .before .before in
+    (search needs, first-next (l .before .loop .p) _ (l .before .loop .inv .1) (passed (c .before .section-right .ensures) (c .if1 .left)))
+
+returns-2 : tie.Need-returns-2 Inv-loop μ-loop
+returns-2 c =
+    let e : c .before .loop .p ≡ 4 = omega arith in
+    rw e (sym (rw e at (c .before .loop .inv .1)))
+
+pub wrong-section-spec : {M : Type 1} → statement M
+wrong-section-spec =
+    tie.close
+    (tie.spec
+    Inv-loop
+    μ-loop
+    loop-holds
+    section-right-requires
+    returns
+    add-p
+    loop-less
+    loop-again
+    returns-2)

@@ -1,0 +1,26 @@
+-- What the inner loops of the code give, said of bytes and plain numbers; laws show it to be what the file's definitions say.
+use Prim.Native.Nat.{ℕ, _+_, _*_}
+use mathlib.Core.Bool.{Bool, not, _&&_}
+use mathlib.Core.List.{List}
+use lib.ListN.{getD}
+use lib.IntN.{ℤ, pos}
+use lib.Signed.{leZ}
+use Rattle.sections.specs.Each.{allBelow}
+use Rattle.sections.specs.Words.{numberAt}
+use Rattle.sections.specs.File.{steps, eqZ}
+
+-- number k from byte at on lies between the k-th of low and the k-th of high
+abbrev pub insideBy : List ℕ → ℕ → List ℤ → List ℤ → ℕ → Bool
+insideBy s at low high k = leZ (getD low k (pos 0)) (numberAt s (at + 8 * k)) && leZ (numberAt s (at + 8 * k)) (getD high k (pos 0))
+
+-- so do all of record i, of records of size numbers from byte at on
+abbrev pub recordBy : List ℕ → ℕ → ℕ → List ℤ → List ℤ → ℕ → Bool
+recordBy s at size low high i = allBelow size (insideBy s (at + 8 * (size * i)) low high)
+
+-- the first number of record i + 1 may stand behind that of record i
+abbrev pub stepBy : List ℕ → ℕ → ℕ → ℕ → ℕ → Bool
+stepBy s at size o i = steps o (numberAt s (at + 8 * (size * i))) (numberAt s (at + 8 * (size * (i + 1))))
+
+-- the first number of record i is another than z
+abbrev pub otherBy : List ℕ → ℕ → ℕ → ℤ → ℕ → Bool
+otherBy s at size z i = not (eqZ (numberAt s (at + 8 * (size * i))) z)

@@ -1,0 +1,6 @@
+pub mod Each
+pub mod Words
+pub mod Layouts
+pub mod File
+pub mod Table
+pub mod Code

@@ -1,0 +1,123 @@
+// Session files, each behind its length: the answers of `check` and `fault`, and the first record of each section. Then the writer.
+ghost use mathlib.Core.Path.{_≡_};
+ghost use lib.IntN.{natAbs};
+
+fn magnitude(n: i64) -> u64
+    ensures { λ r. ⌜ r ≡ natAbs n ⌝ }
+{
+    if n < 0 {
+        (0 - (n + 1)) as u64 + 1
+    } else {
+        n as u64
+    }
+}
+
+fn show(n: i64) {
+    if n < 0 {
+        io::write_all(1, b"-");
+    }
+    io::print_decimal(1, magnitude(n));
+    io::write_all(1, b" ");
+}
+
+fn line() {
+    io::write_all(1, b"\n");
+}
+
+fn show_answers(file: &[u8]) {
+    let c = session::check(file);
+    show(c.refusal);
+    show(c.stations);
+    show(c.sources);
+    show(c.days);
+    show(c.passes);
+    let f = session::fault(file);
+    show(f.number);
+    show(f.section);
+    show(f.record);
+    show(f.field);
+    line();
+}
+
+fn show_records(file: &[u8], index: usize) {
+    let a = session::station_at(file, index);
+    show(a.refusal);
+    show(a.id);
+    show(a.x);
+    show(a.y);
+    show(a.z);
+    let b = session::source_at(file, index);
+    show(b.refusal);
+    show(b.id);
+    show(b.right_ascension);
+    show(b.declination);
+    line();
+}
+
+fn show_times(file: &[u8], index: usize) {
+    let a = session::day_at(file, index);
+    show(a.refusal);
+    show(a.mjd);
+    show(a.x);
+    show(a.y);
+    show(a.ut1_utc);
+    show(a.tai_utc);
+    let b = session::pass_at(file, index);
+    show(b.refusal);
+    show(b.station1);
+    show(b.station2);
+    show(b.source);
+    show(b.mjd);
+    show(b.ms);
+    show(b.step);
+    show(b.samples);
+    show(b.tolerance);
+    line();
+}
+
+fn show_file(file: &[u8]) {
+    show_answers(file);
+    show_records(file, 0);
+    show_times(file, 0);
+    show_records(file, 63);
+    show_times(file, 63);
+}
+
+fn show_files(s: &[u8]) {
+    let mut at: usize = 0;
+    while at < s.len() {
+        if s.len() - at < 8 {
+            return;
+        }
+        let n = sections::words::bits_at(s, at) as usize;
+        let from = at + 8;
+        if s.len() - from < n {
+            return;
+        }
+        let to = from + n;
+        show_file(&s[from..to]);
+        at = to;
+    }
+}
+
+// The smallest file, written; then what the room holds.
+fn show_written(room: &mut [u8]) {
+    let stations = [1i64, 0, 0, 0];
+    let sources = [1i64, 0, 0];
+    let days = [51544i64, 0, 0, 0, 32, 51545, 0, 0, 0, 32];
+    let passes = [1i64, 1, 1, 51544, 0, 1000, 3, 0];
+    let w = writer::write(&stations, &sources, &days, &passes, room);
+    show(w.refusal);
+    show(w.value);
+    show_answers(room);
+}
+
+fn main() {
+    let mut buf = [0u8; 120000];
+    let n = io::read_full(0, &mut buf);
+    show_files(&buf[..n]);
+    let mut enough = [7u8; 304];
+    show_written(&mut enough);
+    let mut short = [7u8; 303];
+    show_written(&mut short);
+}

@@ -1,0 +1,13 @@
+pub mod Numbers
+pub mod Eight
+pub mod All
+pub mod Paste
+pub mod Counts
+pub mod Outcomes
+pub mod Tables
+pub mod Sections
+pub mod Again
+pub mod Back
+pub mod RoundTrips
+pub mod Fitting
+pub mod Promises

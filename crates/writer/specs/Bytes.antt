@@ -1,0 +1,42 @@
+-- Document 01, 'Session file': "Every number is 8 bytes, little-endian two's complement", written.
+use Prim.Native.Nat.{ℕ, zero, suc, _+_, _*_, _/_, _%_, _<_}
+use mathlib.Core.List.{List, [], _∷_, _++_, map}
+use lib.ListN.{length, getD, set, take, drop}
+use lib.IntN.{ℤ}
+use mir.Syntax.{w64}
+use mir.Val.{toZ, ofZ}
+use Rattle.sections.specs.Words.{bitsAt}
+
+-- the two, the four, the eight bytes of a word, the lowest first
+abbrev pub pairOf : ℕ → List ℕ
+pairOf w = w % 256 ∷ w / 256 ∷ []
+
+abbrev pub quadOf : ℕ → List ℕ
+quadOf w = pairOf (w % 65536) ++ pairOf (w / 65536)
+
+unfoldable pub bytesOf : ℕ → List ℕ
+bytesOf w = quadOf (w % 4294967296) ++ quadOf (w / 4294967296)
+
+-- the bytes of words, one after the other
+unfoldable pub bytesOfAll : List ℕ → List ℕ
+bytesOfAll [] = []
+bytesOfAll (w ∷ ws) = bytesOf w ++ bytesOfAll ws
+
+-- the words of numbers, in two's complement
+abbrev pub wordsOf : List ℤ → List ℕ
+wordsOf zs = map (ofZ w64) zs
+
+-- d with the bytes bs from at on
+unfoldable pub pasted : List ℕ → ℕ → List ℕ → List ℕ
+pasted d at bs = take at d ++ (bs ++ drop (at + length bs) d)
+
+-- ---- what the code's stores leave
+
+abbrev pub putPair : List ℕ → ℕ → ℕ → List ℕ
+putPair d at w = set (set d at (w % 256)) (at + 1) (w / 256)
+
+unfoldable pub putQuad : List ℕ → ℕ → ℕ → List ℕ
+putQuad d at w = putPair (putPair d at (w % 65536)) (at + 2) (w / 65536)
+
+unfoldable pub putBits : List ℕ → ℕ → ℕ → List ℕ
+putBits d at w = putQuad (putQuad d at (w % 4294967296)) (at + 4) (w / 4294967296)

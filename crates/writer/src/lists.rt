@@ -1,0 +1,80 @@
+// The four lists of numbers: whether they are right counts of whole records, and the contents table that they have.
+ghost use mathlib.Core.Path.{_≡_};
+ghost use mathlib.Core.Bool.{true};
+ghost use Prim.Native.Nat.{_/_, _<_};
+ghost use Rattle.writer.specs.Writing.{sizeIn, listRight, listsRight, contentsFor};
+use crate::Kinds;
+use sections::layouts::layout_in;
+
+// Whether n numbers are a right count of whole records of a kind in a place.
+fn list_right(place: usize, kind: usize, n: usize) -> bool
+    requires { ⌜ place < 4 ⌝ }
+    ensures { λ r. ⌜ r ≡ listRight place kind n ⌝ }
+{
+    let l = layout_in(place, kind);
+    let size = l.size;
+    if size == 0 {
+        return false;
+    }
+    let count = n / size;
+    if size * count != n {
+        return false;
+    }
+    if count < l.fewest {
+        return false;
+    }
+    count <= l.most
+}
+
+pub fn lists_right(k: Kinds, a: usize, b: usize, c: usize, d: usize) -> bool
+    ensures { λ r. ⌜ r ≡ listsRight k a b c d ⌝ }
+{
+    if !list_right(0, k.first, a) {
+        return false;
+    }
+    if !list_right(1, k.second, b) {
+        return false;
+    }
+    if !list_right(2, k.third, c) {
+        return false;
+    }
+    list_right(3, k.fourth, d)
+}
+
+// How many records n numbers are.
+fn count_in(place: usize, kind: usize, n: usize) -> u64
+    requires { ⌜ (place < 4) × (0 < sizeIn place kind) ⌝ }
+    ensures { λ r. ⌜ r ≡ n / sizeIn place kind ⌝ }
+{
+    let l = layout_in(place, kind);
+    (n / l.size) as u64
+}
+
+// The contents table of a file of these lists' lengths.
+pub fn contents_for(k: Kinds, a: usize, b: usize, c: usize, d: usize) -> [u64; 13]
+    requires { ⌜ listsRight k a b c d ≡ true ⌝ }
+    ensures { λ r. ⌜ r ≡ contentsFor k a b c d ⌝ }
+{
+    let n1 = count_in(0, k.first, a);
+    let n2 = count_in(1, k.second, b);
+    let n3 = count_in(2, k.third, c);
+    let n4 = count_in(3, k.fourth, d);
+    let s2 = 104 + 8 * a;
+    let s3 = s2 + 8 * b;
+    let s4 = s3 + 8 * c;
+    [
+        4,
+        k.first as u64,
+        104,
+        n1,
+        k.second as u64,
+        s2 as u64,
+        n2,
+        k.third as u64,
+        s3 as u64,
+        n3,
+        k.fourth as u64,
+        s4 as u64,
+        n4,
+    ]
+}

@@ -1,0 +1,33 @@
+// The round trips as theorems over every slice there is. A number of a slice fits its type, which only a function over the slice can tell:
+// so each theorem is the promise of a function whose result nobody needs.
+ghost use mathlib.Core.Path.{_≡_};
+ghost use Rattle.writer.specs.Round.{Longs, ReadBack, WrittenBack};
+use sections::refusal::refusal_of;
+
+// Each number of a slice fits 64 bits.
+fn each_fits(zs: &[i64])
+    ensures { λ _. ⌜ Longs (now (zs .entry)) ⌝ }
+{
+    let mut i: usize = 0;
+    while i < zs.len() {
+        let z = zs[i];
+        i += 1;
+    }
+}
+
+// What `write` writes is read back: for every four lists and every room.
+pub fn reads_back(stations: &[i64], sources: &[i64], days: &[i64], passes: &[i64], room: &[u8])
+    ensures { λ _. ⌜ ReadBack (now (stations .entry)) (now (sources .entry)) (now (days .entry)) (now (passes .entry)) (now (room .entry)) ⌝ }
+{
+    each_fits(stations);
+    each_fits(sources);
+    each_fits(days);
+    each_fits(passes);
+}
+
+// An accepted file is the one that `write` makes of its records: for every file.
+pub fn writes_back(file: &[u8])
+    ensures { λ _. ⌜ WrittenBack (now (file .entry)) ⌝ }
+{
+    let n = refusal_of(file);
+}
