@@ -3,13 +3,14 @@
 use mathlib.Core.Path.{_≡_, refl, sym, ap, subst, _∙_}
 use mathlib.Core.Bool.{Bool, true, false, not, cond}
 use mathlib.Core.List.{List, [], _∷_}
+use mathlib.Core.Logic.{⊎-elim}
 use Prim.Native.Nat.{ℕ, zero, suc, _+_, _*_, _-_, _≤_, _<_, min}
 use native.Mathlib.Omega.{arith}
 use borrow.Author.Tests.{eq-eqb, ne-eqb}
 use lib.Dec.{T, T-not, eqb, ltb, ltb→lt, nltb→le, lt→ltb}
 use lib.ListN.{length}
 use Rattle.fit.specs.Greedy.{grow, longest, counts, Cover, done, step}
-use Rattle.fit.proofs.Tests.{by-test}
+use Rattle.fit.proofs.Tests.{by-test, lt-or}
 
 module _ (fit : ℕ → ℕ → Bool) (cap n : ℕ) (cap-pos : 1 ≤ cap)
     (one : (s : ℕ) → T (fit s 1))
@@ -124,3 +125,20 @@ module _ (fit : ℕ → ℕ → Bool) (cap n : ℕ) (cap-pos : 1 ≤ cap)
 
   pub fewest : (cs : List ℕ) → Cover fit cap n 0 cs → length (counts fit cap n n 0) ≤ length cs
   fewest cs c = ahead c n 0 (omega arith)
+
+  -- where any two samples fit, there are at most half as many runs as samples, rounded up
+  pub counts-half : 2 ≤ cap → ((s : ℕ) → T (fit s 2)) → (k s : ℕ) → s ≤ n → 2 * length (counts fit cap n k s) ≤ n - s + 1
+  unfolding counts
+  counts-half h two zero s l = omega arith
+  counts-half h two (suc k) s l = by-test (ltb s n) (longest fit cap n s ∷ counts fit cap n k (s + longest fit cap n s)) [] (λ z. 2 * length z ≤ n - s + 1)
+      (λ t. let m : s < n = ltb→lt s n t in
+      ⊎-elim
+      (λ b. omega (
+        arith,
+        longest-most s 2 (omega arith) h (omega arith) (two s),
+        longest-within s m,
+        counts-half h two k (s + longest fit cap n s) (longest-within s m),
+      ))
+      (λ b. omega (arith, longest-pos s, longest-within s m, counts-end k (s + longest fit cap n s) (omega (arith, longest-pos s))))
+      (lt-or (s + 1) n))
+      (λ t. omega arith)

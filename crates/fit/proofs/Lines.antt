@@ -173,3 +173,15 @@ module _ (s : List ℤ) (t : ℕ) (small : Small s) (tol : t ≤ 1_000_000) wher
     where
       e : A ≡ subℕ (plus A + lift - minus A) lift
       e = offset-is A (subℕ (tilted s t f c) tilt) f c h k
+
+  -- "A beyond ±9·10^15, r beyond ±2·10^16" never occurs
+  pub rate-size : (f c : ℕ) → T (fitOf s t f c) → ∣ rateOf s t f c ∣ ≤ 20_000_000_000_000_000
+  unfolding rateOf
+  rate-size f c k = sub-abs (tilted s t f c) tilt 20_000_000_000_000_000 .1 (omega (arith, tilted-top f c k), omega arith)
+
+  pub offset-size : (f c : ℕ) → 1 ≤ c → T (fitOf s t f c) → ∣ offsetOf s t f c ∣ ≤ 9_000_000_000_000_000
+  unfolding offsetOf scaled
+  offset-size f c h k = sub-abs (lifted s t f c) lift 9_000_000_000_000_000 .1 (
+    omega (arith, tilted-fits f c k 0 h .0, mul-zero (tilted s t f c), bias-high (sample s (f + 0)) (small (f + 0))),
+    omega (arith, tilted-fits f c k 0 h .1, mul-zero (tilted s t f c), bias-low (sample s (f + 0)) (small (f + 0))),
+  )

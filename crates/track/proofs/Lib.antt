@@ -1,0 +1,5 @@
+pub mod Theorems
+pub mod Runs
+pub mod Room
+pub mod Each
+pub mod Answers
