@@ -1,21 +1,9 @@
 // Samples made non-negative, so that all that follows is unsigned.
 ghost use mathlib.Core.Path.{_≡_};
 ghost use Prim.Native.Nat.{ℕ, _-_, _<_, _≤_, max};
-ghost use lib.Dec.{leb};
 ghost use Rattle.whole.specs.Whole.{∣_∣};
 ghost use Rattle.fit.specs.Line.{Small};
 ghost use Rattle.fit.specs.Rates.{bias, scaled};
-
-// Whether z is at most `limit` in size. The least number of all has no opposite, so a negative one is moved up by one first.
-pub fn within(z: i64, limit: u64) -> bool
-    ensures { λ r. ⌜ r ≡ leb ∣ z ∣ limit ⌝ }
-{
-    if z < 0 {
-        let m = (0 - (z + 1)) as u64;
-        return m < limit;
-    }
-    (z as u64) <= limit
-}
 
 // The sample z, at most 130_000_000_000 in size, made non-negative.
 fn biased(z: i64) -> u64

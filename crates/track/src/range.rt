@@ -3,7 +3,7 @@ ghost use mathlib.Core.Path.{_≡_};
 ghost use Prim.Native.Nat.{ℕ};
 ghost use lib.ListN.{length};
 ghost use Rattle.track.specs.Answer.{each, smallAt, inRange};
-use fit::samples::within;
+use whole::sign::size;
 
 // Whether each sample is at most 130_000_000_000 in size.
 fn all_small(samples: &[i64]) -> bool
@@ -12,7 +12,7 @@ fn all_small(samples: &[i64]) -> bool
     let mut i: usize = 0;
     while i < samples.len() {
         let z = samples[i];
-        if !within(z, 130_000_000_000) {
+        if 130_000_000_000 < size(z) {
             return false;
         }
         i += 1;

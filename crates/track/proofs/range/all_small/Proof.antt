@@ -1,13 +1,12 @@
 -- `track::all_small` meets its contract.
-use mathlib.Core.Path.{_≡_, refl, sym, ap, _∙_}
+use mathlib.Core.Path.{_≡_, refl, sym, ap, subst, _∙_}
 use mathlib.Core.Bool.{true}
-use Prim.Native.Nat.{ℕ, _≤_, _-_}
+use Prim.Native.Nat.{ℕ, _≤_, _<_, _-_}
 use native.Mathlib.Omega.{arith}
 use borrow.Author.Needs.{needs}
-use borrow.Author.Tests.{not-true, not-false}
+use borrow.Author.Tests.{lt-leb, le-leb}
 use lib.ListN.{length}
 use lib.IntN.{ℤ}
-use lib.Dec.{leb}
 use Rattle.whole.specs.Whole.{∣_∣}
 use Rattle.whole.proofs.Linear.{back}
 use Rattle.fit.specs.Line.{sample}
@@ -32,17 +31,17 @@ mul-z c = omega arith
 shared-slice-copy-out-z : tie.Need-shared-slice-copy-out-z Inv-loop μ-loop
 shared-slice-copy-out-z c = omega arith
 
-within-requires : tie.Need-within-requires Inv-loop μ-loop
-within-requires c κs = tt
+size-requires : tie.Need-size-requires Inv-loop μ-loop
+size-requires c κs = tt
 
--- what the test says of the sample
-says : (c : tie.After-within Inv-loop μ-loop) → let a = c .before .before .before in c .within .result ≡ smallAt (a .before .args .samples .now) (a .loop .i)
+-- the size that is tested is the sample's
+says : (c : tie.After-size Inv-loop μ-loop) → let a = c .before .before .before in c .size .result ≡ ∣ sample (a .before .args .samples .now) (a .loop .i) ∣
 says c = let a = c .before .before .before in
-    c .within .ensures ∙ ap (λ (y : ℤ). leb ∣ y ∣ 130_000_000_000) (back {z = sample (a .before .args .samples .now) (a .loop .i)} (record { sfits = c .before .z .given }))
+    c .size .ensures ∙ ap (λ (y : ℤ). ∣ y ∣) (back {z = sample (a .before .args .samples .now) (a .loop .i)} (record { sfits = c .before .z .given }))
 
 returns : tie.Need-returns Inv-loop μ-loop
 returns c = let a = c .before .before .before .before in let s = a .before .args .samples .now in
-    sym (each-fails (length s) (a .loop .i) (smallAt s) (c .before .before .before .loop-test .taken) (sym (says (c .before)) ∙ not-true _ (c .if1 .taken)))
+    sym (each-fails (length s) (a .loop .i) (smallAt s) (c .before .before .before .loop-test .taken) (lt-leb _ _ (subst (λ (n : ℕ). 130_000_000_000 < n) (says (c .before)) (c .if1 .taken))))
 
 add-i : tie.Need-add-i Inv-loop μ-loop
 add-i c = omega arith
@@ -52,7 +51,7 @@ loop-less c = omega arith
 
 loop-again : tie.Need-loop-again Inv-loop μ-loop
 loop-again c = let a = c .before .before .before .before in let s = a .before .args .samples .now in
-    (omega arith, each-next (a .loop .i) (smallAt s) (a .loop .inv .1) (sym (says (c .before)) ∙ not-false _ (c .if1 .left)))
+    (omega arith, each-next (a .loop .i) (smallAt s) (a .loop .inv .1) (le-leb _ _ (subst (λ (n : ℕ). n ≤ 130_000_000_000) (says (c .before)) (c .if1 .left))))
 
 returns-2 : tie.Need-returns-2 Inv-loop μ-loop
 returns-2 c = let a = c .before in let s = a .before .args .samples .now in let e : a .loop .i ≡ length s = omega arith in
@@ -67,7 +66,7 @@ all-small-spec =
     loop-holds
     mul-z
     shared-slice-copy-out-z
-    within-requires
+    size-requires
     returns
     add-i
     loop-less

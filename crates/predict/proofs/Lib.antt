@@ -1,0 +1,4 @@
+pub mod Reach
+pub mod Bools
+pub mod Numbers
+pub mod Answers
