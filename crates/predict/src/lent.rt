@@ -11,10 +11,10 @@ use whole::sign::size;
 pub fn sound(track: &[i64]) -> bool
     ensures { λ r. ⌜ r ≡ soundFrom 0 (lentOf (now (track .entry))) ⌝ }
 {
-    let m = track.len() / 4;
+    let all = track.len() / 4;
     let mut at: u64 = 0;
     let mut i: usize = 0;
-    while i < m {
+    while i < all {
         let b = 4 * i;
         let first = track[b];
         let count = track[b + 1];
