@@ -9,7 +9,7 @@ use native.Mathlib.Omega.{arith}
 use lib.ListN.{getD, set, length}
 use lib.Seq.{getD-set-same, getD-set-other}
 use Rattle.fit.specs.Rates.{low, upp, rowLo, rowHi, lo, hi, mirror}
-use Rattle.fit.proofs.Pairs.{low-le, le-upp, Above, Below}
+use Rattle.fit.proofs.Pairs.{low-le, le-upp, lo-le, Above, Below}
 use Rattle.fit.proofs.Tests.{lt-or}
 
 module _ (g : ℕ → ℕ) (w N : ℕ) (bound : (i : ℕ) → g i + 2 * w ≤ N) where
@@ -65,3 +65,8 @@ module _ (g : ℕ → ℕ) (w N : ℕ) (bound : (i : ℕ) → g i + 2 * w ≤ N)
   unfolding hi lo
   hi-mirror f zero = omega arith
   hi-mirror f (suc c) = row-mirror f (f + c) c (lo (mirror g w N) w N f c) (hi g w N f c) (omega arith) (hi-mirror f c)
+
+-- no least rate is above twice the tilt
+pub lo-top : (g : ℕ → ℕ) (w N : ℕ) → ((i : ℕ) → g i + 2 * w ≤ N) → (f c : ℕ) → lo g w N f c ≤ 2 * N
+lo-top g w N bound f c = lo-le g w N f (2 * N) c (λ b i h k. low-le g w N (2 * N) (f + i) (f + b) (omega arith) .1
+    (omega (arith, bound (f + b), one-le g w N bound (f + i) (f + b) (omega arith), native.Mathlib.Nat.mul-assoc 2 N (f + b - (f + i)))))

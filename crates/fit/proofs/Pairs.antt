@@ -93,7 +93,7 @@ module _ (g : ℕ → ℕ) (w N f : ℕ) where
       (λ e. subst (λ (z : ℕ). low g w N (f + i) (f + z) ≤ rowLo g w N f (f + c) c (lo g w N f c)) (sym e) (rowLo-at (f + c) c (lo g w N f c) i (omega arith)))
       (last-or b c h)
 
-  lo-le : (p c : ℕ) → ((b i : ℕ) → b < c → i < b → low g w N (f + i) (f + b) ≤ p) → lo g w N f c ≤ p
+  pub lo-le : (p c : ℕ) → ((b i : ℕ) → b < c → i < b → low g w N (f + i) (f + b) ≤ p) → lo g w N f c ≤ p
   unfolding lo
   lo-le p zero k = omega arith
   lo-le p (suc c) k = rowLo-le p (f + c) c (lo g w N f c) (lo-le p c (λ b i h l. k b i (omega arith) l)) (λ i h. k c i (omega arith) h)

@@ -8,7 +8,6 @@ ghost use Rattle.fit.specs.Rates.{fitOf, least};
 ghost use Rattle.fit.specs.Chains.{Full};
 use super::chain::add;
 use super::chain::ask;
-use super::samples::above;
 use super::samples::scaled_at;
 
 // A run: its number of samples, and the least rate that they leave, tilted.
@@ -57,7 +56,7 @@ pub fn longest_run(
         let b = 17_040_000_000_000_000 - v - a;
         let p = ask(xa, va, qa, i, j, m, a, v, l);
         let r = ask(xb, vb, qb, k, n, m, b, v, h);
-        if above(34_080_000_000_000_000, r.rate) < p.rate {
+        if 34_080_000_000_000_000 < p.rate + r.rate {
             return Run { count: c, least: l };
         }
         l = p.rate;

@@ -8,7 +8,7 @@ use lib.ListN.{length}
 use Rattle.fit.specs.Greedy.{grow}
 use Rattle.fit.specs.Rates.{scaled, tilt, fitOf, hi, mirror}
 use Rattle.fit.proofs.Lines.{bound}
-use Rattle.fit.proofs.Mirror.{mirror-bound, hi-mirror}
+use Rattle.fit.proofs.Mirror.{mirror-bound, hi-mirror, lo-top}
 use Rattle.fit.proofs.Steps.{fit-yes, fit-no, grow-yes, grow-no, grow-end}
 use Rattle.fit.proofs.Halves.{Half, Next, first, safe, asked, added}
 use Rattle.fit.proofs.run.longest_run.Statement.{statement}
@@ -96,11 +96,17 @@ nextB c = let d = c .before .before .before .before .before .before .before .bef
 mlim : (c : tie.Start Inv-loop μ-loop) (i : ℕ) → mirror (scaled (c .args .samples .now)) (65536 * c .args .tolerance) tilt i + 2 * (65536 * c .args .tolerance) ≤ tilt
 mlim c = mirror-bound (scaled (c .args .samples .now)) (65536 * c .args .tolerance) tilt (lim c)
 
--- the greatest rate
-high : (c : tie.After-above Inv-loop μ-loop) → let a = c .before .before .before .before .before .before .before .before .before .before .before in let y = a .before .before .args in
-    c .above .result ≡ hi (scaled (y .samples .now)) (65536 * y .tolerance) tilt (y .first) (a .loop .c + 1)
-high c = let a = c .before .before .before .before .before .before .before .before .before .before .before in let y = a .before .before .args in
-    omega (arith, c .above .ensures, nextB (c .before) .rate, hi-mirror (scaled (y .samples .now)) (65536 * y .tolerance) tilt (lim (a .before .before)) (y .first) (a .loop .c + 1))
+-- the greatest rate, and that neither rate is above twice the tilt
+high : (c : tie.After-ask2 Inv-loop μ-loop) → let a = c .before .before .before .before .before .before .before .before .before .before in let y = a .before .before .args in
+    (2 * tilt - c .ask2 .result .rate ≡ hi (scaled (y .samples .now)) (65536 * y .tolerance) tilt (y .first) (a .loop .c + 1)) × (c .ask2 .result .rate ≤ 2 * tilt)
+high c = let a = c .before .before .before .before .before .before .before .before .before .before in let y = a .before .before .args in let r = nextB c .rate in (
+  omega (arith, r, hi-mirror (scaled (y .samples .now)) (65536 * y .tolerance) tilt (lim (a .before .before)) (y .first) (a .loop .c + 1)),
+  omega (arith, r, lo-top (mirror (scaled (y .samples .now)) (65536 * y .tolerance) tilt) (65536 * y .tolerance) tilt (mlim (a .before .before)) (y .first) (a .loop .c + 1)),
+)
+
+low : (c : tie.After-ask Inv-loop μ-loop) → c .ask .result .rate ≤ 2 * tilt
+low c = let a = c .before .before .before .before .before .before in let y = a .before .before .args in
+    omega (arith, nextA c .rate, lo-top (scaled (y .samples .now)) (65536 * y .tolerance) tilt (lim (a .before .before)) (y .first) (a .loop .c + 1))
 
 -- the run is not yet the longest
 short : (c : tie.In-loop Inv-loop μ-loop) → c .before .loop .c < 1024
@@ -118,14 +124,14 @@ ask-requires-2 c κs = let d = c .before .before .before .before .before .before
   (omega (arith, short (d .before), a .loop .inv .4 .ends), omega (arith, short (d .before)), omega arith),
 )
 
-above-requires : tie.Need-above-requires Inv-loop μ-loop
-above-requires c κs = search needs
+add-if1 : tie.Need-add-if1 Inv-loop μ-loop
+add-if1 c = let q = c .before .before in omega (arith, high q .1, low (q .before .before .before .before))
 
 returns : tie.Need-returns Inv-loop μ-loop
 returns c = let e = c .before .before in let q = e .before in let a = q .before .before .before .before .before .before .before .before .before .before in let x = a .before .before .args in (
   (
     sym (grow-no (fitOf (x .samples .now) (x .tolerance)) (x .first) (x .most) (a .loop .c) (q .before .before .before .before .before .before .before .before .before .loop-test .taken)
-        (fit-no (x .samples .now) (x .tolerance) (x .first) (a .loop .c + 1) _ _ (nextA (q .before .before .before .before) .rate) (high e) (c .if1 .taken))) ∙ a .loop .inv .2,
+        (fit-no (x .samples .now) (x .tolerance) (x .first) (a .loop .c + 1) _ _ (nextA (q .before .before .before .before) .rate) (high q .0) (omega (arith, c .if1 .taken, high q .1)))) ∙ a .loop .inv .2,
     a .loop .inv .3 .rate,
   ),
   (a .loop .inv .3 .full, a .loop .inv .4 .full),
@@ -159,7 +165,7 @@ loop-again c = let e = c .before .before .before .before .before .before .before
       omega arith,
       omega (arith, d .before .loop-test .taken),
       grow-yes (fitOf (x .samples .now) (x .tolerance)) (x .first) (x .most) (a .loop .c) (d .before .loop-test .taken)
-          (fit-yes (x .samples .now) (x .tolerance) (x .first) (a .loop .c + 1) _ _ (nextA k .rate) (high (e .before .before)) (e .if1 .left)) ∙ a .loop .inv .2,
+          (fit-yes (x .samples .now) (x .tolerance) (x .first) (a .loop .c + 1) _ _ (nextA k .rate) (high q .0) (omega (arith, e .if1 .left, high q .1))) ∙ a .loop .inv .2,
       added (scaled (x .samples .now)) (65536 * x .tolerance) (x .first) (a .loop .xa) (a .loop .va) (a .loop .qa) _ _ _ (a .loop .c) (k .ask .result .rate) (k .ask .result .at) (a .loop .j) (d .scaled-at2 .result) (z .add .result)
           (nextA k) (a .loop .inv .3 .ends) (z .add .ensures .0) (z .add .ensures .2) (z .add .ensures .3) (d .scaled-at2 .ensures),
       added (mirror (scaled (x .samples .now)) (65536 * x .tolerance) tilt) (65536 * x .tolerance) (x .first) (a .loop .xb) (a .loop .vb) (a .loop .qb) _ _ _ (a .loop .c) (q .ask2 .result .rate) (q .ask2 .result .at) (a .loop .n)
@@ -196,7 +202,7 @@ longest-run-spec =
     sub-b-2
     ask-requires
     ask-requires-2
-    above-requires
+    add-if1
     returns
     add-requires
     add-requires-2
