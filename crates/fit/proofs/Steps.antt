@@ -80,11 +80,9 @@ unbias-fits a b h k = subst (λ (z : ℤ). SFits w64 z) (sym (unbias a b h)) (su
 pub unbiased : (a b : ℕ) → a ≤ 2 * tilt → b ≤ 2 * tilt → toZ w64 (ofZ w64 (toZ w64 a -ℤ pos b)) ≡ subℕ a b
 unbiased a b h k = toZ-ofZ w64 (toZ w64 a -ℤ pos b) (unbias-fits a b h k) ∙ unbias a b h
 
--- the least offset, raised by twice the tolerance
-pub off-step : (g : ℕ → ℕ) (w N p f j a b x r : ℕ) → a ≡ off g w N p f j + 2 * w → b ≡ g (f + j) → p * j ≤ N * j + b + w → x ≡ N * j + b + w - p * j → r ≡ max a x
-    → r ≡ off g w N p f (j + 1) + 2 * w
+pub off-step : (g : ℕ → ℕ) (w N p f j a b x r : ℕ) → a ≡ off g w N p f j → b ≡ g (f + j) → x ≡ N * j + b - (w + p * j) → r ≡ max a x → r ≡ off g w N p f (j + 1)
 unfolding off
-off-step g w N p f j a b x r ha hb h hx hr = rw add-one (omega arith)
+off-step g w N p f j a b x r ha hb hx hr = rw add-one (cc)
 
 pub back-sub : (x : ℤ) (a b : ℕ) → x ≡ subℕ a b → a ≤ 2 * tilt → b ≤ 2 * tilt → toZ w64 (ofZ w64 x) ≡ subℕ a b
 back-sub x a b e h k = ap (λ (z : ℤ). toZ w64 (ofZ w64 z)) e ∙ toZ-ofZ w64 (subℕ a b) (sub-fits a b h k)

@@ -1,4 +1,4 @@
-// The chain of the samples that can still set the least rate: x holds their places in the run, v their values, q the rate from which each is better
+// The chain of the samples that can still set the least rate: x holds their places in the run, v their tilted values, q the rate from which each is better
 // than the one before it. See specs/Chains.antt.
 ghost use mathlib.Core.Path.{_≡_};
 ghost use Prim.Native.Nat.{ℕ, _+_, _*_, _-_, _/_, _<_, _≤_};
@@ -7,18 +7,18 @@ ghost use Rattle.fit.specs.Rates.{tilt};
 ghost use Rattle.fit.specs.Chains.{Safe, Full, leftAt, Asked, Keeping, Added};
 use super::samples::larger;
 
-// The least rate that two samples a and b leave, b the earlier by d, with twice the tolerance v.
+// The least rate that two samples of tilted values a and b leave, b the earlier by d, with twice the tolerance v.
 fn rate_low(a: u64, b: u64, v: u64, d: u64) -> u64
-    requires { ⌜ (a ≤ tilt) × (b + v ≤ tilt) × (1 ≤ d) × (d ≤ 1023) ⌝ }
-    ensures { λ r. ⌜ r ≡ (tilt * d + a - (b + v) + d - 1) / d ⌝ }
+    requires { ⌜ (a ≤ 1024 * tilt) × (b + v ≤ a) × (1 ≤ d) × (d ≤ 1023) ⌝ }
+    ensures { λ r. ⌜ r ≡ (a - (b + v) + d - 1) / d ⌝ }
 {
-    (17_040_000_000_000_000 * d + a - (b + v) + d - 1) / d
+    (a - (b + v) + d - 1) / d
 }
 
-// The least rate that the sample `next`, of value `height`, leaves with the one at i on the chain.
+// The least rate that the sample `next`, of tilted value `height`, leaves with the one at i on the chain.
 fn left_at(x: &[u64; 1024], v: &[u64; 1024], i: usize, next: u64, height: u64, slack: u64) -> u64
-    requires { ⌜ (i < 1024) × (getD (now x) i 0 < next) × (getD (now v) i 0 + slack ≤ tilt) × (next ≤ 1023) × (height ≤ tilt) ⌝ }
-    ensures { λ r. ⌜ r ≡ leftAt tilt (now (x .entry)) (now (v .entry)) i next height slack ⌝ }
+    requires { ⌜ (i < 1024) × (getD (now x) i 0 < next) × (getD (now v) i 0 + slack ≤ height) × (next ≤ 1023) × (height ≤ 1024 * tilt) ⌝ }
+    ensures { λ r. ⌜ r ≡ leftAt (now (x .entry)) (now (v .entry)) i next height slack ⌝ }
 {
     let k = x[i];
     let y = v[i];
@@ -43,8 +43,8 @@ pub fn ask(
     slack: u64,
     least: u64,
 ) -> Found
-    requires { ⌜ Safe tilt (now x) (now v) head tail next slack ⌝ }
-    requires { ⌜ (tail < 1024) × (next ≤ 1023) × (height ≤ tilt) ⌝ }
+    requires { ⌜ Safe (now x) (now v) head tail next height slack ⌝ }
+    requires { ⌜ (tail < 1024) × (next ≤ 1023) × (height ≤ 1024 * tilt) ⌝ }
     ensures { λ r. ⌜ (head ≤ r .at) × (r .at ≤ tail) × Asked tilt (now (x .entry)) (now (v .entry)) (now (q .entry)) head tail next height slack least (r .at) (r .rate) ⌝ }
 {
     let mut i = head;
@@ -69,8 +69,8 @@ fn keep(
     next: u64,
     height: u64,
 ) -> Found
-    requires { ⌜ Safe tilt (now x) (now v) head tail next 0 ⌝ }
-    requires { ⌜ (tail < 1024) × (next ≤ 1023) × (height ≤ tilt) ⌝ }
+    requires { ⌜ Safe (now x) (now v) head tail next height 0 ⌝ }
+    requires { ⌜ (tail < 1024) × (next ≤ 1023) × (height ≤ 1024 * tilt) ⌝ }
     ensures { λ r. ⌜ (head ≤ r .at) × (r .at ≤ tail) × (head < r .at → getD (now (q .entry)) (r .at) 0 ≤ r .rate) × Keeping tilt (now (x .entry)) (now (v .entry)) (now (q .entry)) head tail next height (r .at) (r .rate) ⌝ }
 {
     let mut i = tail;
@@ -95,8 +95,8 @@ pub fn add(
     next: u64,
     height: u64,
 ) -> usize
-    requires { ⌜ Safe tilt (now x) (now v) head tail next 0 ⌝ }
-    requires { ⌜ (tail < 1023) × (next ≤ 1023) × (height ≤ tilt) ⌝ }
+    requires { ⌜ Safe (now x) (now v) head tail next height 0 ⌝ }
+    requires { ⌜ (tail < 1023) × (next ≤ 1023) × (height ≤ 1024 * tilt) ⌝ }
     requires { ⌜ Full (now x) (now v) (now q) ⌝ }
     ensures { λ r. ⌜ Full (now (x .exit)) (now (v .exit)) (now (q .exit)) × (head ≤ r) × (r ≤ tail + 1) × Added tilt (now (x .entry)) (now (v .entry)) (now (q .entry)) head tail next height (now (x .exit)) (now (v .exit)) (now (q .exit)) r ⌝ }
 {

@@ -7,6 +7,7 @@ ghost use lib.IntN.{subℕ};
 ghost use lib.ListN.{length};
 ghost use Rattle.fit.specs.Line.{Small};
 ghost use Rattle.fit.specs.Rates.{scaled, tilt, lift, lo, hi, off, fitOf, least, offsetOf, rateOf};
+use super::samples::above;
 use super::samples::larger;
 use super::samples::scaled_at;
 
@@ -23,7 +24,7 @@ fn rate_of(c: usize, l: u64) -> u64
     if c == 1 { 17_040_000_000_000_000 } else { l }
 }
 
-// The least offset at the rate p, which the `count` samples from `first` leave. It is raised by twice the tolerance on the way, so that no step goes below 0.
+// The least offset at the rate p, which the `count` samples from `first` leave.
 fn offset_of(samples: &[i64], tolerance: u64, first: usize, count: usize, p: u64) -> u64
     requires { ⌜ first + count ≤ length (now samples) ⌝ }
     requires { ⌜ Small (now samples) ⌝ }
@@ -32,15 +33,17 @@ fn offset_of(samples: &[i64], tolerance: u64, first: usize, count: usize, p: u64
     ensures { λ r. ⌜ r ≡ off (scaled (now (samples .entry))) (65536 * tolerance) tilt p first count ⌝ }
 {
     let w = 65536 * tolerance;
-    let mut a: u64 = 2 * w;
+    let mut a: u64 = 0;
     let mut j: usize = 0;
     while j < count {
         let b = scaled_at(samples, first + j);
         let k = j as u64;
-        a = larger(a, 17_040_000_000_000_000 * k + b + w - p * k);
+        let u = 17_040_000_000_000_000 * k + b;
+        let v = w + p * k;
+        a = larger(a, above(u, v));
         j += 1;
     }
-    a - 2 * w
+    a
 }
 
 // An offset with the lift taken off, and a rate with the tilt taken off.

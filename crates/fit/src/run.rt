@@ -52,8 +52,10 @@ pub fn longest_run(
     let mut n: usize = 0;
     while c < most {
         let m = c as u64;
-        let a = scaled_at(samples, first + c);
-        let b = 17_040_000_000_000_000 - v - a;
+        let t = 17_040_000_000_000_000 * m;
+        let s = scaled_at(samples, first + c);
+        let a = t + s;
+        let b = t + 17_040_000_000_000_000 - v - s;
         let p = ask(xa, va, qa, i, j, m, a, v, l);
         let r = ask(xb, vb, qb, k, n, m, b, v, h);
         if 34_080_000_000_000_000 < p.rate + r.rate {

@@ -1,6 +1,6 @@
 // Samples made non-negative, so that all that follows is unsigned.
 ghost use mathlib.Core.Path.{_≡_};
-ghost use Prim.Native.Nat.{ℕ, _<_, _≤_, max};
+ghost use Prim.Native.Nat.{ℕ, _-_, _<_, _≤_, max};
 ghost use Rattle.whole.specs.Whole.{∣_∣};
 ghost use Rattle.fit.specs.Line.{Small};
 ghost use Rattle.fit.specs.Rates.{bias, scaled};
@@ -27,4 +27,11 @@ pub fn larger(a: u64, b: u64) -> u64
     ensures { λ r. ⌜ r ≡ max a b ⌝ }
 {
     if a < b { b } else { a }
+}
+
+// How far u is above v, or 0.
+pub fn above(u: u64, v: u64) -> u64
+    ensures { λ r. ⌜ r ≡ u - v ⌝ }
+{
+    if v < u { u - v } else { 0 }
 }

@@ -12,7 +12,7 @@ use Rattle.fit.proofs.line.offset_of.Statement.{statement}
 use Rattle.fit.proofs.line.offset_of.Tie as tie
 
 abbrev Inv-loop : tie.InvT-loop
-Inv-loop s t f c p w a₀ j₀ a j = (j ≤ c) × (a ≡ off (scaled s) (65536 * t) tilt p f j + 2 * (65536 * t))
+Inv-loop s t f c p w a₀ j₀ a j = (j ≤ c) × (a ≡ off (scaled s) (65536 * t) tilt p f j)
 
 abbrev μ-loop : tie.MeasureT-loop
 μ-loop s t f c p w a₀ j₀ a j = c - j
@@ -20,12 +20,9 @@ abbrev μ-loop : tie.MeasureT-loop
 mul-w : tie.Need-mul-w Inv-loop μ-loop
 mul-w c = omega arith
 
-mul-a : tie.Need-mul-a Inv-loop μ-loop
-mul-a c = omega arith
-
 loop-holds : tie.Need-loop-holds Inv-loop μ-loop
 unfolding off
-loop-holds c = (omega arith, omega arith)
+loop-holds c = (omega arith, refl)
 
 add-scaled-at : tie.Need-add-scaled-at Inv-loop μ-loop
 add-scaled-at c = omega arith
@@ -47,20 +44,20 @@ facts c =
       omega arith,
     )
 
-mul-larger : tie.Need-mul-larger Inv-loop μ-loop
-mul-larger c = omega (arith, facts c)
+mul-u : tie.Need-mul-u Inv-loop μ-loop
+mul-u c = omega (arith, facts c)
 
-add-larger : tie.Need-add-larger Inv-loop μ-loop
-add-larger c = omega (arith, facts c)
+add-u : tie.Need-add-u Inv-loop μ-loop
+add-u c = omega (arith, facts c)
 
-add-larger-2 : tie.Need-add-larger-2 Inv-loop μ-loop
-add-larger-2 c = omega (arith, facts c)
+mul-v : tie.Need-mul-v Inv-loop μ-loop
+mul-v c = omega (arith, facts c)
 
-mul-larger-2 : tie.Need-mul-larger-2 Inv-loop μ-loop
-mul-larger-2 c = omega (arith, facts c)
+add-v : tie.Need-add-v Inv-loop μ-loop
+add-v c = omega (arith, facts c)
 
-sub-larger : tie.Need-sub-larger Inv-loop μ-loop
-sub-larger c = facts c .1
+above-requires : tie.Need-above-requires Inv-loop μ-loop
+above-requires c κs = search needs
 
 larger-requires : tie.Need-larger-requires Inv-loop μ-loop
 larger-requires c κs = search needs
@@ -73,26 +70,17 @@ loop-less c = omega arith
 
 loop-again : tie.Need-loop-again Inv-loop μ-loop
 loop-again c =
-    let q = c .before in
+    let q = c .before .before in
     let x = q .before .before .before .args in (
       omega arith,
-      off-step (scaled (x .samples .now)) (65536 * x .tolerance) tilt (x .p) (x .first) (q .before .before .loop .j) _ _ _ _ (q .before .before .loop .inv .1) (q .scaled-at .ensures)
-          (facts q .1) refl (c .larger .ensures),
+      off-step (scaled (x .samples .now)) (65536 * x .tolerance) tilt (x .p) (x .first) (q .before .before .loop .j) _ _ _ _ (q .before .before .loop .inv .1) (q .scaled-at .ensures) (c .before .above .ensures) (c .larger .ensures),
     )
-
-mul-result : tie.Need-mul-result Inv-loop μ-loop
-mul-result c = omega (arith, c .before .before .pre .1 .1 .0 .0)
-
-sub-result : tie.Need-sub-result Inv-loop μ-loop
-sub-result c = omega (arith, c .before .loop .inv .1)
 
 returns : tie.Need-returns Inv-loop μ-loop
 returns c =
     let x = c .before .before .args in
     let e : c .before .loop .j ≡ x .count = omega arith in
-    let o : off (scaled (x .samples .now)) (65536 * x .tolerance) tilt (x .p) (x .first) (c .before .loop .j) ≡ off (scaled (x .samples .now)) (65536 * x .tolerance) tilt (x .p) (x .first) (x .count) =
-    ap (λ (z : ℕ). off (scaled (x .samples .now)) (65536 * x .tolerance) tilt (x .p) (x .first) z) e in
-    omega (arith, c .before .loop .inv .1)
+    c .before .loop .inv .1 ∙ ap (λ (z : ℕ). off (scaled (x .samples .now)) (65536 * x .tolerance) tilt (x .p) (x .first) z) e
 
 pub offset-of-spec : {M : Type 1} → statement M
 offset-of-spec =
@@ -101,19 +89,16 @@ offset-of-spec =
     Inv-loop
     μ-loop
     mul-w
-    mul-a
     loop-holds
     add-scaled-at
     scaled-at-requires
-    mul-larger
-    add-larger
-    add-larger-2
-    mul-larger-2
-    sub-larger
+    mul-u
+    add-u
+    mul-v
+    add-v
+    above-requires
     larger-requires
     add-j
     loop-less
     loop-again
-    mul-result
-    sub-result
     returns)

@@ -67,31 +67,59 @@ loop-holds c = let y = c .before .args in let w = 65536 * y .tolerance in let u 
   first (mirror (scaled (y .samples .now)) w tilt) w (y .first) (y .xb .now) (y .vb .now) (y .qb .now) (tilt - 2 * w - c .scaled-at .result) (u .1) (turned (scaled (y .samples .now)) w (y .first) (c .scaled-at .result) (c .scaled-at .ensures)),
 )
 
+-- the run is not yet the longest
+short : (c : tie.In-loop Inv-loop μ-loop) → c .before .loop .c < 1024
+short c = omega arith
+
+mul-t : tie.Need-mul-t Inv-loop μ-loop
+mul-t c = omega (arith, short c)
+
 add-scaled-at : tie.Need-add-scaled-at Inv-loop μ-loop
 add-scaled-at c = omega arith
 
 scaled-at-requires-2 : tie.Need-scaled-at-requires-2 Inv-loop μ-loop
 scaled-at-requires-2 c κs = (omega arith, c .before .before .before .pre .1 .0)
 
+-- the sample's scaled value, and its tilted values on both sides
+value : (c : tie.After-scaled-at2 Inv-loop μ-loop) → let a = c .before .before in let y = a .before .before .args in
+    (c .scaled-at2 .result + 2 * (65536 * y .tolerance) ≤ tilt) × (a .loop .c ≤ 1023)
+value c = let a = c .before .before in (omega (arith, c .scaled-at2 .ensures, lim (a .before .before) (a .before .before .args .first + a .loop .c)), omega (arith, short (c .before)))
+
+heightA : (c : tie.After-scaled-at2 Inv-loop μ-loop) → let a = c .before .before in let y = a .before .before .args in
+    tilt * a .loop .c + c .scaled-at2 .result ≡ tilt * a .loop .c + scaled (y .samples .now) (y .first + a .loop .c)
+heightA c = ap (λ (z : ℕ). tilt * c .before .before .loop .c + z) (c .scaled-at2 .ensures)
+
+heightB : (c : tie.After-scaled-at2 Inv-loop μ-loop) → let a = c .before .before in let y = a .before .before .args in
+    tilt * a .loop .c + tilt - 2 * (65536 * y .tolerance) - c .scaled-at2 .result
+    ≡ tilt * a .loop .c + mirror (scaled (y .samples .now)) (65536 * y .tolerance) tilt (y .first + a .loop .c)
+heightB c = let a = c .before .before in let y = a .before .before .args in
+    omega (arith, value c, turned (scaled (y .samples .now)) (65536 * y .tolerance) (y .first + a .loop .c) (c .scaled-at2 .result) (c .scaled-at2 .ensures))
+
+add-a : tie.Need-add-a Inv-loop μ-loop
+add-a c = omega (arith, value c)
+
+add-b : tie.Need-add-b Inv-loop μ-loop
+add-b c = omega (arith, value c)
+
 sub-b : tie.Need-sub-b Inv-loop μ-loop
-sub-b c = omega (arith, lim (c .before .before .before .before) (c .before .before .before .before .args .first + c .before .before .loop .c))
+sub-b c = omega (arith, value c)
 
 sub-b-2 : tie.Need-sub-b-2 Inv-loop μ-loop
-sub-b-2 c = omega (arith, lim (c .before .before .before .before) (c .before .before .before .before .args .first + c .before .before .loop .c))
+sub-b-2 c = omega (arith, value c)
 
 -- the halves after the sample is asked of them
 nextA : (c : tie.After-ask Inv-loop μ-loop) → let a = c .before .before .before .before .before .before in let y = a .before .before .args in
     Next (scaled (y .samples .now)) (65536 * y .tolerance) (y .first) (a .loop .xa) (a .loop .va) (a .loop .qa) (a .loop .c) (c .ask .result .rate) (c .ask .result .at) (a .loop .j)
 nextA c = let d = c .before .before .before .before in let a = d .before .before in let y = a .before .before .args in
     asked (scaled (y .samples .now)) (65536 * y .tolerance) (y .first) (a .loop .xa) (a .loop .va) (a .loop .qa) (a .loop .c) (a .loop .l) (a .loop .i) (a .loop .j)
-    (d .scaled-at2 .result) (2 * (65536 * y .tolerance)) (c .ask .result .at) (c .ask .result .rate) (a .loop .inv .3) (c .ask .ensures .2) refl (d .scaled-at2 .ensures)
+    (tilt * a .loop .c + d .scaled-at2 .result) (2 * (65536 * y .tolerance)) (c .ask .result .at) (c .ask .result .rate) (a .loop .inv .3) (c .ask .ensures .2) refl (heightA d)
 
 nextB : (c : tie.After-ask2 Inv-loop μ-loop) → let a = c .before .before .before .before .before .before .before .before .before .before in let y = a .before .before .args in
     Next (mirror (scaled (y .samples .now)) (65536 * y .tolerance) tilt) (65536 * y .tolerance) (y .first) (a .loop .xb) (a .loop .vb) (a .loop .qb) (a .loop .c) (c .ask2 .result .rate) (c .ask2 .result .at) (a .loop .n)
 nextB c = let d = c .before .before .before .before .before .before .before .before in let a = d .before .before in let y = a .before .before .args in
     asked (mirror (scaled (y .samples .now)) (65536 * y .tolerance) tilt) (65536 * y .tolerance) (y .first) (a .loop .xb) (a .loop .vb) (a .loop .qb) (a .loop .c) (a .loop .h) (a .loop .k) (a .loop .n)
-    (tilt - 2 * (65536 * y .tolerance) - d .scaled-at2 .result) (2 * (65536 * y .tolerance)) (c .ask2 .result .at) (c .ask2 .result .rate) (a .loop .inv .4) (c .ask2 .ensures .2) refl
-    (turned (scaled (y .samples .now)) (65536 * y .tolerance) (y .first + a .loop .c) (d .scaled-at2 .result) (d .scaled-at2 .ensures))
+    (tilt * a .loop .c + tilt - 2 * (65536 * y .tolerance) - d .scaled-at2 .result) (2 * (65536 * y .tolerance)) (c .ask2 .result .at) (c .ask2 .result .rate) (a .loop .inv .4) (c .ask2 .ensures .2) refl
+    (heightB d)
 
 mlim : (c : tie.Start Inv-loop μ-loop) (i : ℕ) → mirror (scaled (c .args .samples .now)) (65536 * c .args .tolerance) tilt i + 2 * (65536 * c .args .tolerance) ≤ tilt
 mlim c = mirror-bound (scaled (c .args .samples .now)) (65536 * c .args .tolerance) tilt (lim c)
@@ -108,20 +136,18 @@ low : (c : tie.After-ask Inv-loop μ-loop) → c .ask .result .rate ≤ 2 * tilt
 low c = let a = c .before .before .before .before .before .before in let y = a .before .before .args in
     omega (arith, nextA c .rate, lo-top (scaled (y .samples .now)) (65536 * y .tolerance) tilt (lim (a .before .before)) (y .first) (a .loop .c + 1))
 
--- the run is not yet the longest
-short : (c : tie.In-loop Inv-loop μ-loop) → c .before .loop .c < 1024
-short c = omega arith
-
 ask-requires : tie.Need-ask-requires Inv-loop μ-loop
 ask-requires c κs = let d = c .before .before .before in let a = d .before .before in let u = a .before .before in let y = u .args in (
-  safe (scaled (y .samples .now)) (65536 * y .tolerance) (y .first) (lim u) (a .loop .xa) (a .loop .va) (a .loop .qa) (a .loop .i) (a .loop .j) (a .loop .c) (2 * (65536 * y .tolerance)) (omega arith) (a .loop .inv .3 .chain .order),
-  (omega (arith, short (d .before), a .loop .inv .3 .ends), omega (arith, short (d .before)), omega (arith, d .scaled-at2 .ensures, lim u (y .first + a .loop .c))),
+  safe (scaled (y .samples .now)) (65536 * y .tolerance) (y .first) (lim u) (a .loop .xa) (a .loop .va) (a .loop .qa) (a .loop .i) (a .loop .j) (a .loop .c)
+      (tilt * a .loop .c + d .scaled-at2 .result) (2 * (65536 * y .tolerance)) (omega arith) (heightA d) (a .loop .inv .3 .chain .order),
+  (omega (arith, short (d .before), a .loop .inv .3 .ends), omega (arith, short (d .before)), omega (arith, value d)),
 )
 
 ask-requires-2 : tie.Need-ask-requires-2 Inv-loop μ-loop
 ask-requires-2 c κs = let d = c .before .before .before .before .before .before .before in let a = d .before .before in let u = a .before .before in let y = u .args in (
-  safe (mirror (scaled (y .samples .now)) (65536 * y .tolerance) tilt) (65536 * y .tolerance) (y .first) (mlim u) (a .loop .xb) (a .loop .vb) (a .loop .qb) (a .loop .k) (a .loop .n) (a .loop .c) (2 * (65536 * y .tolerance)) (omega arith) (a .loop .inv .4 .chain .order),
-  (omega (arith, short (d .before), a .loop .inv .4 .ends), omega (arith, short (d .before)), omega arith),
+  safe (mirror (scaled (y .samples .now)) (65536 * y .tolerance) tilt) (65536 * y .tolerance) (y .first) (mlim u) (a .loop .xb) (a .loop .vb) (a .loop .qb) (a .loop .k) (a .loop .n) (a .loop .c)
+      (tilt * a .loop .c + tilt - 2 * (65536 * y .tolerance) - d .scaled-at2 .result) (2 * (65536 * y .tolerance)) (omega arith) (heightB d) (a .loop .inv .4 .chain .order),
+  (omega (arith, short (d .before), a .loop .inv .4 .ends), omega (arith, short (d .before)), omega (arith, value d)),
 )
 
 add-if1 : tie.Need-add-if1 Inv-loop μ-loop
@@ -140,15 +166,17 @@ returns c = let e = c .before .before in let q = e .before in let a = q .before 
 add-requires : tie.Need-add-requires Inv-loop μ-loop
 add-requires c κs = let e = c .before .before .before in let q = e .before .before .before in let k = q .before .before .before .before in let d = k .before .before .before .before in
     let a = d .before .before in let u = a .before .before in let y = u .args in (
-      safe (scaled (y .samples .now)) (65536 * y .tolerance) (y .first) (lim u) (a .loop .xa) (a .loop .va) (a .loop .qa) (k .ask .result .at) (a .loop .j) (a .loop .c) 0 (omega arith) (nextA k .chain .order),
-      ((omega (arith, short (d .before), a .loop .inv .3 .ends), omega (arith, short (d .before)), omega (arith, d .scaled-at2 .ensures, lim u (y .first + a .loop .c))), a .loop .inv .3 .full),
+      safe (scaled (y .samples .now)) (65536 * y .tolerance) (y .first) (lim u) (a .loop .xa) (a .loop .va) (a .loop .qa) (k .ask .result .at) (a .loop .j) (a .loop .c)
+          (tilt * a .loop .c + d .scaled-at2 .result) 0 (omega arith) (heightA d) (nextA k .chain .order),
+      ((omega (arith, short (d .before), a .loop .inv .3 .ends), omega (arith, short (d .before)), omega (arith, value d)), a .loop .inv .3 .full),
     )
 
 add-requires-2 : tie.Need-add-requires-2 Inv-loop μ-loop
 add-requires-2 c κs = let e = c .before .before .before .before .before .before .before in let q = e .before .before .before in let k = q .before .before .before .before in let d = k .before .before .before .before in
     let a = d .before .before in let u = a .before .before in let y = u .args in (
-      safe (mirror (scaled (y .samples .now)) (65536 * y .tolerance) tilt) (65536 * y .tolerance) (y .first) (mlim u) (a .loop .xb) (a .loop .vb) (a .loop .qb) (q .ask2 .result .at) (a .loop .n) (a .loop .c) 0 (omega arith) (nextB q .chain .order),
-      ((omega (arith, short (d .before), a .loop .inv .4 .ends), omega (arith, short (d .before)), omega arith), a .loop .inv .4 .full),
+      safe (mirror (scaled (y .samples .now)) (65536 * y .tolerance) tilt) (65536 * y .tolerance) (y .first) (mlim u) (a .loop .xb) (a .loop .vb) (a .loop .qb) (q .ask2 .result .at) (a .loop .n) (a .loop .c)
+          (tilt * a .loop .c + tilt - 2 * (65536 * y .tolerance) - d .scaled-at2 .result) 0 (omega arith) (heightB d) (nextB q .chain .order),
+      ((omega (arith, short (d .before), a .loop .inv .4 .ends), omega (arith, short (d .before)), omega (arith, value d)), a .loop .inv .4 .full),
     )
 
 add-c : tie.Need-add-c Inv-loop μ-loop
@@ -166,12 +194,12 @@ loop-again c = let e = c .before .before .before .before .before .before .before
       omega (arith, d .before .loop-test .taken),
       grow-yes (fitOf (x .samples .now) (x .tolerance)) (x .first) (x .most) (a .loop .c) (d .before .loop-test .taken)
           (fit-yes (x .samples .now) (x .tolerance) (x .first) (a .loop .c + 1) _ _ (nextA k .rate) (high q .0) (omega (arith, e .if1 .left, high q .1))) ∙ a .loop .inv .2,
-      added (scaled (x .samples .now)) (65536 * x .tolerance) (x .first) (a .loop .xa) (a .loop .va) (a .loop .qa) _ _ _ (a .loop .c) (k .ask .result .rate) (k .ask .result .at) (a .loop .j) (d .scaled-at2 .result) (z .add .result)
-          (nextA k) (a .loop .inv .3 .ends) (z .add .ensures .0) (z .add .ensures .2) (z .add .ensures .3) (d .scaled-at2 .ensures),
+      added (scaled (x .samples .now)) (65536 * x .tolerance) (x .first) (a .loop .xa) (a .loop .va) (a .loop .qa) _ _ _ (a .loop .c) (k .ask .result .rate) (k .ask .result .at) (a .loop .j) (tilt * a .loop .c + d .scaled-at2 .result) (z .add .result)
+          (nextA k) (a .loop .inv .3 .ends) (z .add .ensures .0) (z .add .ensures .2) (z .add .ensures .3) (heightA d),
       added (mirror (scaled (x .samples .now)) (65536 * x .tolerance) tilt) (65536 * x .tolerance) (x .first) (a .loop .xb) (a .loop .vb) (a .loop .qb) _ _ _ (a .loop .c) (q .ask2 .result .rate) (q .ask2 .result .at) (a .loop .n)
-          (tilt - 2 * (65536 * x .tolerance) - d .scaled-at2 .result) (c .add2 .result)
+          (tilt * a .loop .c + tilt - 2 * (65536 * x .tolerance) - d .scaled-at2 .result) (c .add2 .result)
           (nextB q) (a .loop .inv .4 .ends) (c .add2 .ensures .0) (c .add2 .ensures .2) (c .add2 .ensures .3)
-          (turned (scaled (x .samples .now)) (65536 * x .tolerance) (x .first + a .loop .c) (d .scaled-at2 .result) (d .scaled-at2 .ensures)),
+          (heightB d),
     )
 
 returns-2 : tie.Need-returns-2 Inv-loop μ-loop
@@ -196,8 +224,11 @@ longest-run-spec =
     sub-vb-2
     element-write-vb
     loop-holds
+    mul-t
     add-scaled-at
     scaled-at-requires-2
+    add-a
+    add-b
     sub-b
     sub-b-2
     ask-requires
