@@ -16,13 +16,13 @@ fn rate_low(a: u64, b: u64, v: u64, d: u64) -> u64
 }
 
 // The least rate that the sample `next`, of tilted value `height`, leaves with the one at i on the chain.
-fn left_at(x: &[u64; 1024], v: &[u64; 1024], i: usize, next: u64, height: u64, slack: u64) -> u64
+fn left_at(x: &[u32; 1024], v: &[u64; 1024], i: usize, next: u32, height: u64, slack: u64) -> u64
     requires { ⌜ (i < 1024) × (getD (now x) i 0 < next) × (getD (now v) i 0 + slack ≤ height) × (next ≤ 1023) × (height ≤ 1024 * tilt) ⌝ }
     ensures { λ r. ⌜ r ≡ leftAt (now (x .entry)) (now (v .entry)) i next height slack ⌝ }
 {
     let k = x[i];
     let y = v[i];
-    rate_low(height, y, slack, next - k)
+    rate_low(height, y, slack, (next - k) as u64)
 }
 
 // A place on a chain, and a rate found there.
@@ -33,12 +33,12 @@ pub struct Found {
 
 // The least rate from `least` on that the sample `next` leaves with each sample before it, found on their chain; and where the chain then starts.
 pub fn ask(
-    x: &[u64; 1024],
+    x: &[u32; 1024],
     v: &[u64; 1024],
     q: &[u64; 1024],
     head: usize,
     tail: usize,
-    next: u64,
+    next: u32,
     height: u64,
     slack: u64,
     least: u64,
@@ -61,12 +61,12 @@ pub fn ask(
 
 // Where the chain ends once the samples go that `next` makes needless, and the rate from which `next` is better than the last that stays.
 fn keep(
-    x: &[u64; 1024],
+    x: &[u32; 1024],
     v: &[u64; 1024],
     q: &[u64; 1024],
     head: usize,
     tail: usize,
-    next: u64,
+    next: u32,
     height: u64,
 ) -> Found
     requires { ⌜ Safe (now x) (now v) head tail next height 0 ⌝ }
@@ -87,12 +87,12 @@ fn keep(
 
 // Puts the sample `next` behind the chain, and answers where the chain then ends.
 pub fn add(
-    x: &mut [u64; 1024],
+    x: &mut [u32; 1024],
     v: &mut [u64; 1024],
     q: &mut [u64; 1024],
     head: usize,
     tail: usize,
-    next: u64,
+    next: u32,
     height: u64,
 ) -> usize
     requires { ⌜ Safe (now x) (now v) head tail next height 0 ⌝ }

@@ -23,10 +23,10 @@ pub fn longest_run(
     tolerance: u64,
     first: usize,
     most: usize,
-    xa: &mut [u64; 1024],
+    xa: &mut [u32; 1024],
     va: &mut [u64; 1024],
     qa: &mut [u64; 1024],
-    xb: &mut [u64; 1024],
+    xb: &mut [u32; 1024],
     vb: &mut [u64; 1024],
     qb: &mut [u64; 1024],
 ) -> Run
@@ -51,8 +51,8 @@ pub fn longest_run(
     let mut k: usize = 0;
     let mut n: usize = 0;
     while c < most {
-        let m = c as u64;
-        let t = 17_040_000_000_000_000 * m;
+        let m = c as u32;
+        let t = 17_040_000_000_000_000 * (c as u64);
         let s = scaled_at(samples, first + c);
         let a = t + s;
         let b = t + 17_040_000_000_000_000 - v - s;
@@ -79,10 +79,10 @@ pub fn fits_part(samples: &[i64], tolerance: u64, first: usize, count: usize) ->
     requires { ⌜ tolerance ≤ 1_000_000 ⌝ }
     ensures { λ r. ⌜ r ≡ fitOf (now (samples .entry)) tolerance first count ⌝ }
 {
-    let mut xa: [u64; 1024] = [0; 1024];
+    let mut xa: [u32; 1024] = [0; 1024];
     let mut va: [u64; 1024] = [0; 1024];
     let mut qa: [u64; 1024] = [0; 1024];
-    let mut xb: [u64; 1024] = [0; 1024];
+    let mut xb: [u32; 1024] = [0; 1024];
     let mut vb: [u64; 1024] = [0; 1024];
     let mut qb: [u64; 1024] = [0; 1024];
     let run = longest_run(

@@ -19,7 +19,7 @@ fn most_from(n: usize, f: usize) -> usize
 pub fn count_segments(
     samples: &[i64],
     tolerance: u64,
-    counts: &mut [usize; 2048],
+    counts: &mut [u32; 2048],
     rates: &mut [u64; 2048],
 ) -> usize
     requires { ⌜ Small (now samples) × (length (now samples) ≤ 4096) ⌝ }
@@ -27,10 +27,10 @@ pub fn count_segments(
     requires { ⌜ (length (now counts) ≡ 2048) × (length (now rates) ≡ 2048) ⌝ }
     ensures { λ r. ⌜ (r ≡ length (trackOf (now (samples .entry)) tolerance)) × Stored (now (samples .entry)) tolerance (now (counts .exit)) (now (rates .exit)) r ⌝ }
 {
-    let mut xa: [u64; 1024] = [0; 1024];
+    let mut xa: [u32; 1024] = [0; 1024];
     let mut va: [u64; 1024] = [0; 1024];
     let mut qa: [u64; 1024] = [0; 1024];
-    let mut xb: [u64; 1024] = [0; 1024];
+    let mut xb: [u32; 1024] = [0; 1024];
     let mut vb: [u64; 1024] = [0; 1024];
     let mut qb: [u64; 1024] = [0; 1024];
     let n = samples.len();
@@ -50,7 +50,7 @@ pub fn count_segments(
             &mut qb,
         );
         let c = run.count;
-        counts[m] = c;
+        counts[m] = c as u32;
         rates[m] = run.least;
         f += c;
         m += 1;

@@ -24,7 +24,7 @@ pub fn track(samples: &[i64], tolerance: i64, room: &mut [i64]) -> Number
             value: 0,
         };
     }
-    let mut counts: [usize; 2048] = [0; 2048];
+    let mut counts: [u32; 2048] = [0; 2048];
     let mut rates: [u64; 2048] = [0; 2048];
     let t = tolerance as u64;
     let m = count::count_segments(samples, t, &mut counts, &mut rates);

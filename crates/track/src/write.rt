@@ -22,7 +22,7 @@ fn put(room: &mut [i64], at: usize, a: i64, b: i64, c: i64, d: i64)
 pub fn write_segments(
     samples: &[i64],
     tolerance: u64,
-    counts: &[usize; 2048],
+    counts: &[u32; 2048],
     rates: &[u64; 2048],
     many: usize,
     room: &mut [i64],
@@ -36,7 +36,8 @@ pub fn write_segments(
     let mut f: usize = 0;
     let mut m: usize = 0;
     while m < many {
-        let c = counts[m];
+        let k = counts[m];
+        let c = k as usize;
         let line = line_of(samples, tolerance, f, c, rates[m]);
         put(room, 4 * m, f as i64, c as i64, line.offset, line.rate);
         f += c;

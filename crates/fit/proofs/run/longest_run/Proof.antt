@@ -71,6 +71,9 @@ loop-holds c = let y = c .before .args in let w = 65536 * y .tolerance in let u 
 short : (c : tie.In-loop Inv-loop μ-loop) → c .before .loop .c < 1024
 short c = omega arith
 
+cast-m : tie.Need-cast-m Inv-loop μ-loop
+cast-m c = omega (arith, short c)
+
 mul-t : tie.Need-mul-t Inv-loop μ-loop
 mul-t c = omega (arith, short c)
 
@@ -224,6 +227,7 @@ longest-run-spec =
     sub-vb-2
     element-write-vb
     loop-holds
+    cast-m
     mul-t
     add-scaled-at
     scaled-at-requires-2

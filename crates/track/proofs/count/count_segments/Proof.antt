@@ -70,6 +70,9 @@ more c =
       omega (arith, a .loop .inv .3, a .before .pre .0 .1, trackOf-half s t (a .before .pre .0 .0) (a .before .pre .1 .0)),
     )
 
+cast-counts : tie.Need-cast-counts Inv-loop μ-loop
+cast-counts c = let a = c .before .before .before .before .before .before .before .before .before in omega (arith, more c, a .before .pre .0 .1)
+
 mul-counts : tie.Need-mul-counts Inv-loop μ-loop
 mul-counts c = omega (arith, more c)
 
@@ -120,6 +123,7 @@ count-segments-spec =
     loop-holds
     most-from-requires
     longest-run-requires
+    cast-counts
     mul-counts
     element-write-counts
     mul-rates

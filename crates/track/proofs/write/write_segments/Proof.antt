@@ -70,11 +70,14 @@ run c = let a = c .before in let x = a .before .args in let s = x .samples .now 
       omega (arith, c .loop-test .taken, a .before .pre .0 .1, a .before .pre .1 .1 .0 .0, trackOf-half s t sm tl),
     )
 
-mul-c : tie.Need-mul-c Inv-loop μ-loop
-mul-c c = omega (arith, run c)
+mul-k : tie.Need-mul-k Inv-loop μ-loop
+mul-k c = omega (arith, run c)
 
-element-copy-out-c : tie.Need-element-copy-out-c Inv-loop μ-loop
-element-copy-out-c c = run c .8
+element-copy-out-k : tie.Need-element-copy-out-k Inv-loop μ-loop
+element-copy-out-k c = run c .8
+
+cast-c : tie.Need-cast-c Inv-loop μ-loop
+cast-c c = omega (arith, run (c .before))
 
 mul-line-of : tie.Need-mul-line-of Inv-loop μ-loop
 mul-line-of c = omega (arith, run (c .before))
@@ -160,8 +163,9 @@ write-segments-spec =
     Inv-loop
     μ-loop
     loop-holds
-    mul-c
-    element-copy-out-c
+    mul-k
+    element-copy-out-k
+    cast-c
     mul-line-of
     element-copy-out-line-of
     line-of-requires
