@@ -35,24 +35,24 @@ module _ (g : ℕ → ℕ) (w f : ℕ) where
       plain : (f : ℕ) → f ≡ f + 0
       plain f = omega arith
 
-      start : (f : ℕ) → g f ≡ tilt * 0 + g (f + 0)
+      start : (f : ℕ) → g f ≡ (tilt + 1) * 0 + g (f + 0)
       start f = let e : g f ≡ g (f + 0) = ap g (plain f) in omega arith
 
   module _ (bound : (i : ℕ) → g i + 2 * w ≤ tilt) where
     -- an earlier sample is at least the tilt below
-    pub below : (k c a : ℕ) → k < c → a ≡ tilt * c + g (f + c) → tilt * k + g (f + k) + 2 * w ≤ a
-    below k c a h e = omega (arith, mul-le-mul-left {m = k + 1} {n = c} tilt (omega arith), bound (f + k))
+    pub below : (k c a : ℕ) → k < c → a ≡ (tilt + 1) * c + g (f + c) → (tilt + 1) * k + g (f + k) + 2 * w < a
+    below k c a h e = omega (arith, mul-le-mul-left {m = k + 1} {n = c} (tilt + 1) (omega arith), bound (f + k))
 
-    pub safe : (x v q : List ℕ) (i j c a b : ℕ) → b ≤ 2 * w → a ≡ tilt * c + g (f + c) → Order g tilt f x v q i j c → Safe x v i j c a b
+    pub safe : (x v q : List ℕ) (i j c a b : ℕ) → b ≤ 2 * w → a ≡ (tilt + 1) * c + g (f + c) → Order g tilt f x v q i j c → Safe x v i j c a b
     safe x v q i j c a b h e o = record {
       some = o .some;
       before = o .before;
       small = λ k d r. omega (arith, o .value k d r, below (getD x k 0) c a (o .before k d r) e);
     }
 
-  pub asked : (x v q : List ℕ) (c l i j a b k p : ℕ) → Half g w f x v q c l i j → Asked tilt x v q i j c a b l k p → b ≡ 2 * w → a ≡ tilt * c + g (f + c) → Next g w f x v q c p k j
-  asked x v q c l i j a b k p h r e d = let n = r g f w e d (h .chain) in record { rate = lo-step g w tilt f c l p (h .rate) (n .0); chain = n .1 }
+    pub asked : (x v q : List ℕ) (c l i j a b k p : ℕ) → Half g w f x v q c l i j → Asked tilt x v q i j c a b l k p → b ≡ 2 * w → a ≡ (tilt + 1) * c + g (f + c) → Next g w f x v q c p k j
+    asked x v q c l i j a b k p h r e d = let n = r g f w bound e d (h .chain) in record { rate = lo-step g w tilt f c l p (h .rate) (n .0); chain = n .1 }
 
-  pub added : (x v q x′ v′ q′ : List ℕ) (c p i j a y : ℕ) → Next g w f x v q c p i j → j < c → Full x′ v′ q′ → y ≤ j + 1 → Added tilt x v q i j c a x′ v′ q′ y → a ≡ tilt * c + g (f + c)
-      → Half g w f x′ v′ q′ (c + 1) p i y
-  added x v q x′ v′ q′ c p i j a y n h u k r e = record { full = u; rate = n .rate; ends = omega arith; chain = r g f p e (n .chain) }
+    pub added : (x v q x′ v′ q′ : List ℕ) (c p i j a y : ℕ) → Next g w f x v q c p i j → j < c → Full x′ v′ q′ → y ≤ j + 1 → Added tilt x v q i j c a x′ v′ q′ y → a ≡ (tilt + 1) * c + g (f + c)
+        → Half g w f x′ v′ q′ (c + 1) p i y
+    added x v q x′ v′ q′ c p i j a y n h u k r e = record { full = u; rate = n .rate; ends = omega arith; chain = r g f p (λ i. omega (arith, bound i)) e (n .chain) }

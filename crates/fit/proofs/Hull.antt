@@ -31,12 +31,13 @@ module _ (g : ℕ → ℕ) (N f : ℕ) where
       e = omega arith
 
   -- as the code has it
-  pub low-is : (w k j r a b v d : ℕ) → k < j → r ≡ (a - (b + v) + d - 1) / d → d ≡ j - k → a ≡ N * j + g (f + j) → b ≡ N * k + g (f + k) → v ≡ 2 * w
-      → r ≡ low g w N (f + k) (f + j)
+  pub low-is : (w k j r a b v d : ℕ) → k < j → r ≡ (a - (b + v) - 1) / d → d ≡ j - k → a ≡ (N + 1) * j + g (f + j) → b ≡ (N + 1) * k + g (f + k) → v ≡ 2 * w
+      → g (f + k) + 2 * w ≤ N → r ≡ low g w N (f + k) (f + j)
   unfolding low
-  low-is w k j r a b v d h hr hd ha hb hv =
+  low-is w k j r a b v d h hr hd ha hb hv hg =
       let e : d ≡ f + j - (f + k) = omega arith in
-      let n : a - (b + v) ≡ N * (f + j - (f + k)) + g (f + j) - (g (f + k) + 2 * w) = omega (arith, split N k j (f + j - (f + k)) (omega arith)) in
+      let n : a - (b + v) - 1 ≡ N * (f + j - (f + k)) + g (f + j) - (g (f + k) + 2 * w) + (f + j - (f + k)) - 1 =
+      omega (arith, split N k j (f + j - (f + k)) (omega arith), add-mul N 1 j, add-mul N 1 k, native.Mathlib.Nat.mul-le-mul-left {m = 1} {n = f + j - (f + k)} N (omega arith), mul-one N) in
       cc
 
   module _ (x v q : List ℕ) where
@@ -119,7 +120,7 @@ module _ (l : List ℕ) (i a : ℕ) where
   kept j h = getD-set-other l i j a 0 (λ k. let d : j ≡ i = k in omega arith)
 
 module _ (g : ℕ → ℕ) (N f : ℕ) (x v q : List ℕ) (s z y m l a r : ℕ) (e : y ≡ z + 1) (inx : y < length x) (inv : y < length v) (inq : y < length q)
-    (va : a ≡ N * m + g (f + m)) (vr : r ≡ low g 0 N (f + getD x z 0) (f + m)) (up : s < z → getD q z 0 ≤ r) (o : Order g N f x v q s z m) (c : Nearly g N f x s z m l) where
+    (va : a ≡ (N + 1) * m + g (f + m)) (vr : r ≡ low g 0 N (f + getD x z 0) (f + m)) (up : s < z → getD q z 0 ≤ r) (o : Order g N f x v q s z m) (c : Nearly g N f x s z m l) where
   x-old : (i : ℕ) → i ≤ z → getD (set x y m) i 0 ≡ getD x i 0
   x-old i h = kept x y m i (omega arith)
 
@@ -134,8 +135,8 @@ module _ (g : ℕ → ℕ) (N f : ℕ) (x v q : List ℕ) (s z y m l a r : ℕ) 
     order = record {
       some = omega (arith, o .some);
       before = λ i h k. ⊎-elim (λ j. omega (arith, x-old i j, o .before i h j)) (λ j. subst (λ (i : ℕ). getD (set x y m) i 0 < m + 1) (sym j) (omega (arith, x-new))) (old-or i k);
-      value = λ i h k. ⊎-elim (λ j. kept v y a i (omega arith) ∙ o .value i h j ∙ ap (λ (n : ℕ). N * n + g (f + n)) (sym (x-old i j)))
-          (λ j. subst (λ (i : ℕ). getD (set v y a) i 0 ≡ N * getD (set x y m) i 0 + g (f + getD (set x y m) i 0)) (sym j) (getD-set-same v y a 0 inv ∙ va ∙ ap (λ (n : ℕ). N * n + g (f + n)) (sym x-new))) (old-or i k);
+      value = λ i h k. ⊎-elim (λ j. kept v y a i (omega arith) ∙ o .value i h j ∙ ap (λ (n : ℕ). (N + 1) * n + g (f + n)) (sym (x-old i j)))
+          (λ j. subst (λ (i : ℕ). getD (set v y a) i 0 ≡ (N + 1) * getD (set x y m) i 0 + g (f + getD (set x y m) i 0)) (sym j) (getD-set-same v y a 0 inv ∙ va ∙ ap (λ (n : ℕ). (N + 1) * n + g (f + n)) (sym x-new))) (old-or i k);
       splits = λ i j h k n. ⊎-elim
           (λ b. rw (kept q y r j (omega arith), x-old i (omega arith), x-old j b) (o .splits i j h k b))
           (λ b. new i j (omega arith) b) (old-or j n);
@@ -162,12 +163,12 @@ module _ (g : ℕ → ℕ) (N f : ℕ) (x v q : List ℕ) (s z y m l a r : ℕ) 
           top = subst (λ (n : ℕ). Under g N f p a b n) x-new (u y (omega (arith, o .some)) (omega arith))
 
 -- a chain of the first sample
-pub chain-one : (g : ℕ → ℕ) (N f : ℕ) (x v q : List ℕ) → getD x 0 0 ≡ 0 → getD v 0 0 ≡ N * 0 + g (f + 0) → Chain g N f x v q 0 0 1 0
+pub chain-one : (g : ℕ → ℕ) (N f : ℕ) (x v q : List ℕ) → getD x 0 0 ≡ 0 → getD v 0 0 ≡ (N + 1) * 0 + g (f + 0) → Chain g N f x v q 0 0 1 0
 chain-one g N f x v q hx hv = record {
   order = record {
     some = omega arith;
     before = λ i h k. subst (λ (i : ℕ). getD x i 0 < 1) (nil i k) (omega (arith, hx));
-    value = λ i h k. subst (λ (i : ℕ). getD v i 0 ≡ N * getD x i 0 + g (f + getD x i 0)) (nil i k) (hv ∙ ap (λ (n : ℕ). N * n + g (f + n)) (sym hx));
+    value = λ i h k. subst (λ (i : ℕ). getD v i 0 ≡ (N + 1) * getD x i 0 + g (f + getD x i 0)) (nil i k) (hv ∙ ap (λ (n : ℕ). (N + 1) * n + g (f + n)) (sym hx));
     splits = λ i j h k n. absurd (omega arith);
     ordered = λ i j h k n. absurd (omega arith);
   };

@@ -9,15 +9,15 @@ use super::samples::larger;
 
 // The least rate that two samples of tilted values a and b leave, b the earlier by d, with twice the tolerance v.
 fn rate_low(a: u64, b: u64, v: u64, d: u64) -> u64
-    requires { ⌜ (a ≤ 1024 * tilt) × (b + v ≤ a) × (1 ≤ d) × (d ≤ 1023) ⌝ }
-    ensures { λ r. ⌜ r ≡ (a - (b + v) + d - 1) / d ⌝ }
+    requires { ⌜ (b + v < a) × (1 ≤ d) ⌝ }
+    ensures { λ r. ⌜ r ≡ (a - (b + v) - 1) / d ⌝ }
 {
-    (a - (b + v) + d - 1) / d
+    (a - (b + v) - 1) / d
 }
 
 // The least rate that the sample `next`, of tilted value `height`, leaves with the one at i on the chain.
 fn left_at(x: &[u32; 1024], v: &[u64; 1024], i: usize, next: u32, height: u64, slack: u64) -> u64
-    requires { ⌜ (i < 1024) × (getD (now x) i 0 < next) × (getD (now v) i 0 + slack ≤ height) × (next ≤ 1023) × (height ≤ 1024 * tilt) ⌝ }
+    requires { ⌜ (i < 1024) × (getD (now x) i 0 < next) × (getD (now v) i 0 + slack < height) ⌝ }
     ensures { λ r. ⌜ r ≡ leftAt (now (x .entry)) (now (v .entry)) i next height slack ⌝ }
 {
     let k = x[i];
@@ -44,7 +44,7 @@ pub fn ask(
     least: u64,
 ) -> Found
     requires { ⌜ Safe (now x) (now v) head tail next height slack ⌝ }
-    requires { ⌜ (tail < 1024) × (next ≤ 1023) × (height ≤ 1024 * tilt) ⌝ }
+    requires { ⌜ tail < 1024 ⌝ }
     ensures { λ r. ⌜ (head ≤ r .at) × (r .at ≤ tail) × Asked tilt (now (x .entry)) (now (v .entry)) (now (q .entry)) head tail next height slack least (r .at) (r .rate) ⌝ }
 {
     let mut i = head;
@@ -70,7 +70,7 @@ fn keep(
     height: u64,
 ) -> Found
     requires { ⌜ Safe (now x) (now v) head tail next height 0 ⌝ }
-    requires { ⌜ (tail < 1024) × (next ≤ 1023) × (height ≤ 1024 * tilt) ⌝ }
+    requires { ⌜ tail < 1024 ⌝ }
     ensures { λ r. ⌜ (head ≤ r .at) × (r .at ≤ tail) × (head < r .at → getD (now (q .entry)) (r .at) 0 ≤ r .rate) × Keeping tilt (now (x .entry)) (now (v .entry)) (now (q .entry)) head tail next height (r .at) (r .rate) ⌝ }
 {
     let mut i = tail;
@@ -96,7 +96,7 @@ pub fn add(
     height: u64,
 ) -> usize
     requires { ⌜ Safe (now x) (now v) head tail next height 0 ⌝ }
-    requires { ⌜ (tail < 1023) × (next ≤ 1023) × (height ≤ 1024 * tilt) ⌝ }
+    requires { ⌜ tail < 1023 ⌝ }
     requires { ⌜ Full (now x) (now v) (now q) ⌝ }
     ensures { λ r. ⌜ Full (now (x .exit)) (now (v .exit)) (now (q .exit)) × (head ≤ r) × (r ≤ tail + 1) × Added tilt (now (x .entry)) (now (v .entry)) (now (q .entry)) head tail next height (now (x .exit)) (now (v .exit)) (now (q .exit)) r ⌝ }
 {

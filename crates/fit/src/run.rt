@@ -52,7 +52,7 @@ pub fn longest_run(
     let mut n: usize = 0;
     while c < most {
         let m = c as u32;
-        let t = 17_040_000_000_000_000 * (c as u64);
+        let t = 17_040_000_000_000_001 * (c as u64);
         let s = scaled_at(samples, first + c);
         let a = t + s;
         let b = t + 17_040_000_000_000_000 - v - s;

@@ -16,7 +16,7 @@ abbrev μ-loop : tie.MeasureT-loop
 
 left-at-requires : tie.Need-left-at-requires Inv-loop μ-loop
 left-at-requires c κs = let h = c .pre .0 in let j : c .args .head ≤ c .args .head = omega arith in
-    (omega arith, h .before (c .args .head) j (h .some), h .small (c .args .head) j (h .some), omega arith, omega arith)
+    (omega arith, h .before (c .args .head) j (h .some), h .small (c .args .head) j (h .some))
 
 larger-requires : tie.Need-larger-requires Inv-loop μ-loop
 larger-requires c κs = search needs
@@ -50,7 +50,7 @@ add-i c = omega arith
 left-at-requires-2 : tie.Need-left-at-requires-2 Inv-loop μ-loop
 left-at-requires-2 c κs = let k = c .before .before .before in let h = k .before .before .before .pre .0 in let i = k .loop .i + 1 in
     let u : k .before .before .before .args .head ≤ i = omega arith in let w : i ≤ k .before .before .before .args .tail = omega arith in
-    (omega arith, h .before i u w, h .small i u w, omega arith, omega arith)
+    (omega arith, h .before i u w, h .small i u w)
 
 larger-requires-2 : tie.Need-larger-requires-2 Inv-loop μ-loop
 larger-requires-2 c κs = search needs

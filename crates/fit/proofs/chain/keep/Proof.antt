@@ -17,7 +17,7 @@ abbrev μ-loop : tie.MeasureT-loop
 
 left-at-requires : tie.Need-left-at-requires Inv-loop μ-loop
 left-at-requires c κs = let h = c .pre .0 in let j : c .args .tail ≤ c .args .tail = omega arith in
-    (omega arith, h .before (c .args .tail) (h .some) j, h .small (c .args .tail) (h .some) j, omega arith, omega arith)
+    (omega arith, h .before (c .args .tail) (h .some) j, h .small (c .args .tail) (h .some) j)
 
 loop-holds : tie.Need-loop-holds Inv-loop μ-loop
 loop-holds c = let y = c .before .args in (
@@ -42,7 +42,7 @@ sub-i c = omega arith
 left-at-requires-2 : tie.Need-left-at-requires-2 Inv-loop μ-loop
 left-at-requires-2 c κs = let k = c .before .before .before in let h = k .before .before .pre .0 in let i = k .loop .i - 1 in
     let u : k .before .before .args .head ≤ i = omega arith in let w : i ≤ k .before .before .args .tail = omega arith in
-    (omega arith, h .before i u w, h .small i u w, omega arith, omega arith)
+    (omega arith, h .before i u w, h .small i u w)
 
 loop-less : tie.Need-loop-less Inv-loop μ-loop
 loop-less c = omega arith

@@ -89,12 +89,12 @@ value : (c : tie.After-scaled-at2 Inv-loop μ-loop) → let a = c .before .befor
 value c = let a = c .before .before in (omega (arith, c .scaled-at2 .ensures, lim (a .before .before) (a .before .before .args .first + a .loop .c)), omega (arith, short (c .before)))
 
 heightA : (c : tie.After-scaled-at2 Inv-loop μ-loop) → let a = c .before .before in let y = a .before .before .args in
-    tilt * a .loop .c + c .scaled-at2 .result ≡ tilt * a .loop .c + scaled (y .samples .now) (y .first + a .loop .c)
-heightA c = ap (λ (z : ℕ). tilt * c .before .before .loop .c + z) (c .scaled-at2 .ensures)
+    (tilt + 1) * a .loop .c + c .scaled-at2 .result ≡ (tilt + 1) * a .loop .c + scaled (y .samples .now) (y .first + a .loop .c)
+heightA c = ap (λ (z : ℕ). (tilt + 1) * c .before .before .loop .c + z) (c .scaled-at2 .ensures)
 
 heightB : (c : tie.After-scaled-at2 Inv-loop μ-loop) → let a = c .before .before in let y = a .before .before .args in
-    tilt * a .loop .c + tilt - 2 * (65536 * y .tolerance) - c .scaled-at2 .result
-    ≡ tilt * a .loop .c + mirror (scaled (y .samples .now)) (65536 * y .tolerance) tilt (y .first + a .loop .c)
+    (tilt + 1) * a .loop .c + tilt - 2 * (65536 * y .tolerance) - c .scaled-at2 .result
+    ≡ (tilt + 1) * a .loop .c + mirror (scaled (y .samples .now)) (65536 * y .tolerance) tilt (y .first + a .loop .c)
 heightB c = let a = c .before .before in let y = a .before .before .args in
     omega (arith, value c, turned (scaled (y .samples .now)) (65536 * y .tolerance) (y .first + a .loop .c) (c .scaled-at2 .result) (c .scaled-at2 .ensures))
 
@@ -110,22 +110,23 @@ sub-b c = omega (arith, value c)
 sub-b-2 : tie.Need-sub-b-2 Inv-loop μ-loop
 sub-b-2 c = omega (arith, value c)
 
+-- and of the samples turned over
+mlim : (c : tie.Start Inv-loop μ-loop) (i : ℕ) → mirror (scaled (c .args .samples .now)) (65536 * c .args .tolerance) tilt i + 2 * (65536 * c .args .tolerance) ≤ tilt
+mlim c = mirror-bound (scaled (c .args .samples .now)) (65536 * c .args .tolerance) tilt (lim c)
+
 -- the halves after the sample is asked of them
 nextA : (c : tie.After-ask Inv-loop μ-loop) → let a = c .before .before .before .before .before .before in let y = a .before .before .args in
     Next (scaled (y .samples .now)) (65536 * y .tolerance) (y .first) (a .loop .xa) (a .loop .va) (a .loop .qa) (a .loop .c) (c .ask .result .rate) (c .ask .result .at) (a .loop .j)
 nextA c = let d = c .before .before .before .before in let a = d .before .before in let y = a .before .before .args in
-    asked (scaled (y .samples .now)) (65536 * y .tolerance) (y .first) (a .loop .xa) (a .loop .va) (a .loop .qa) (a .loop .c) (a .loop .l) (a .loop .i) (a .loop .j)
-    (tilt * a .loop .c + d .scaled-at2 .result) (2 * (65536 * y .tolerance)) (c .ask .result .at) (c .ask .result .rate) (a .loop .inv .3) (c .ask .ensures .2) refl (heightA d)
+    asked (scaled (y .samples .now)) (65536 * y .tolerance) (y .first) (lim (a .before .before)) (a .loop .xa) (a .loop .va) (a .loop .qa) (a .loop .c) (a .loop .l) (a .loop .i) (a .loop .j)
+    ((tilt + 1) * a .loop .c + d .scaled-at2 .result) (2 * (65536 * y .tolerance)) (c .ask .result .at) (c .ask .result .rate) (a .loop .inv .3) (c .ask .ensures .2) refl (heightA d)
 
 nextB : (c : tie.After-ask2 Inv-loop μ-loop) → let a = c .before .before .before .before .before .before .before .before .before .before in let y = a .before .before .args in
     Next (mirror (scaled (y .samples .now)) (65536 * y .tolerance) tilt) (65536 * y .tolerance) (y .first) (a .loop .xb) (a .loop .vb) (a .loop .qb) (a .loop .c) (c .ask2 .result .rate) (c .ask2 .result .at) (a .loop .n)
 nextB c = let d = c .before .before .before .before .before .before .before .before in let a = d .before .before in let y = a .before .before .args in
-    asked (mirror (scaled (y .samples .now)) (65536 * y .tolerance) tilt) (65536 * y .tolerance) (y .first) (a .loop .xb) (a .loop .vb) (a .loop .qb) (a .loop .c) (a .loop .h) (a .loop .k) (a .loop .n)
-    (tilt * a .loop .c + tilt - 2 * (65536 * y .tolerance) - d .scaled-at2 .result) (2 * (65536 * y .tolerance)) (c .ask2 .result .at) (c .ask2 .result .rate) (a .loop .inv .4) (c .ask2 .ensures .2) refl
+    asked (mirror (scaled (y .samples .now)) (65536 * y .tolerance) tilt) (65536 * y .tolerance) (y .first) (mlim (a .before .before)) (a .loop .xb) (a .loop .vb) (a .loop .qb) (a .loop .c) (a .loop .h) (a .loop .k) (a .loop .n)
+    ((tilt + 1) * a .loop .c + tilt - 2 * (65536 * y .tolerance) - d .scaled-at2 .result) (2 * (65536 * y .tolerance)) (c .ask2 .result .at) (c .ask2 .result .rate) (a .loop .inv .4) (c .ask2 .ensures .2) refl
     (heightB d)
-
-mlim : (c : tie.Start Inv-loop μ-loop) (i : ℕ) → mirror (scaled (c .args .samples .now)) (65536 * c .args .tolerance) tilt i + 2 * (65536 * c .args .tolerance) ≤ tilt
-mlim c = mirror-bound (scaled (c .args .samples .now)) (65536 * c .args .tolerance) tilt (lim c)
 
 -- the greatest rate, and that neither rate is above twice the tilt
 high : (c : tie.After-ask2 Inv-loop μ-loop) → let a = c .before .before .before .before .before .before .before .before .before .before in let y = a .before .before .args in
@@ -142,15 +143,15 @@ low c = let a = c .before .before .before .before .before .before in let y = a .
 ask-requires : tie.Need-ask-requires Inv-loop μ-loop
 ask-requires c κs = let d = c .before .before .before in let a = d .before .before in let u = a .before .before in let y = u .args in (
   safe (scaled (y .samples .now)) (65536 * y .tolerance) (y .first) (lim u) (a .loop .xa) (a .loop .va) (a .loop .qa) (a .loop .i) (a .loop .j) (a .loop .c)
-      (tilt * a .loop .c + d .scaled-at2 .result) (2 * (65536 * y .tolerance)) (omega arith) (heightA d) (a .loop .inv .3 .chain .order),
-  (omega (arith, short (d .before), a .loop .inv .3 .ends), omega (arith, short (d .before)), omega (arith, value d)),
+      ((tilt + 1) * a .loop .c + d .scaled-at2 .result) (2 * (65536 * y .tolerance)) (omega arith) (heightA d) (a .loop .inv .3 .chain .order),
+  omega (arith, short (d .before), a .loop .inv .3 .ends),
 )
 
 ask-requires-2 : tie.Need-ask-requires-2 Inv-loop μ-loop
 ask-requires-2 c κs = let d = c .before .before .before .before .before .before .before in let a = d .before .before in let u = a .before .before in let y = u .args in (
   safe (mirror (scaled (y .samples .now)) (65536 * y .tolerance) tilt) (65536 * y .tolerance) (y .first) (mlim u) (a .loop .xb) (a .loop .vb) (a .loop .qb) (a .loop .k) (a .loop .n) (a .loop .c)
-      (tilt * a .loop .c + tilt - 2 * (65536 * y .tolerance) - d .scaled-at2 .result) (2 * (65536 * y .tolerance)) (omega arith) (heightB d) (a .loop .inv .4 .chain .order),
-  (omega (arith, short (d .before), a .loop .inv .4 .ends), omega (arith, short (d .before)), omega (arith, value d)),
+      ((tilt + 1) * a .loop .c + tilt - 2 * (65536 * y .tolerance) - d .scaled-at2 .result) (2 * (65536 * y .tolerance)) (omega arith) (heightB d) (a .loop .inv .4 .chain .order),
+  omega (arith, short (d .before), a .loop .inv .4 .ends),
 )
 
 add-if1 : tie.Need-add-if1 Inv-loop μ-loop
@@ -170,16 +171,16 @@ add-requires : tie.Need-add-requires Inv-loop μ-loop
 add-requires c κs = let e = c .before .before .before in let q = e .before .before .before in let k = q .before .before .before .before in let d = k .before .before .before .before in
     let a = d .before .before in let u = a .before .before in let y = u .args in (
       safe (scaled (y .samples .now)) (65536 * y .tolerance) (y .first) (lim u) (a .loop .xa) (a .loop .va) (a .loop .qa) (k .ask .result .at) (a .loop .j) (a .loop .c)
-          (tilt * a .loop .c + d .scaled-at2 .result) 0 (omega arith) (heightA d) (nextA k .chain .order),
-      ((omega (arith, short (d .before), a .loop .inv .3 .ends), omega (arith, short (d .before)), omega (arith, value d)), a .loop .inv .3 .full),
+          ((tilt + 1) * a .loop .c + d .scaled-at2 .result) 0 (omega arith) (heightA d) (nextA k .chain .order),
+      (omega (arith, short (d .before), a .loop .inv .3 .ends), a .loop .inv .3 .full),
     )
 
 add-requires-2 : tie.Need-add-requires-2 Inv-loop μ-loop
 add-requires-2 c κs = let e = c .before .before .before .before .before .before .before in let q = e .before .before .before in let k = q .before .before .before .before in let d = k .before .before .before .before in
     let a = d .before .before in let u = a .before .before in let y = u .args in (
       safe (mirror (scaled (y .samples .now)) (65536 * y .tolerance) tilt) (65536 * y .tolerance) (y .first) (mlim u) (a .loop .xb) (a .loop .vb) (a .loop .qb) (q .ask2 .result .at) (a .loop .n) (a .loop .c)
-          (tilt * a .loop .c + tilt - 2 * (65536 * y .tolerance) - d .scaled-at2 .result) 0 (omega arith) (heightB d) (nextB q .chain .order),
-      ((omega (arith, short (d .before), a .loop .inv .4 .ends), omega (arith, short (d .before)), omega (arith, value d)), a .loop .inv .4 .full),
+          ((tilt + 1) * a .loop .c + tilt - 2 * (65536 * y .tolerance) - d .scaled-at2 .result) 0 (omega arith) (heightB d) (nextB q .chain .order),
+      (omega (arith, short (d .before), a .loop .inv .4 .ends), a .loop .inv .4 .full),
     )
 
 add-c : tie.Need-add-c Inv-loop μ-loop
@@ -197,10 +198,10 @@ loop-again c = let e = c .before .before .before .before .before .before .before
       omega (arith, d .before .loop-test .taken),
       grow-yes (fitOf (x .samples .now) (x .tolerance)) (x .first) (x .most) (a .loop .c) (d .before .loop-test .taken)
           (fit-yes (x .samples .now) (x .tolerance) (x .first) (a .loop .c + 1) _ _ (nextA k .rate) (high q .0) (omega (arith, e .if1 .left, high q .1))) ∙ a .loop .inv .2,
-      added (scaled (x .samples .now)) (65536 * x .tolerance) (x .first) (a .loop .xa) (a .loop .va) (a .loop .qa) _ _ _ (a .loop .c) (k .ask .result .rate) (k .ask .result .at) (a .loop .j) (tilt * a .loop .c + d .scaled-at2 .result) (z .add .result)
+      added (scaled (x .samples .now)) (65536 * x .tolerance) (x .first) (lim (a .before .before)) (a .loop .xa) (a .loop .va) (a .loop .qa) _ _ _ (a .loop .c) (k .ask .result .rate) (k .ask .result .at) (a .loop .j) ((tilt + 1) * a .loop .c + d .scaled-at2 .result) (z .add .result)
           (nextA k) (a .loop .inv .3 .ends) (z .add .ensures .0) (z .add .ensures .2) (z .add .ensures .3) (heightA d),
-      added (mirror (scaled (x .samples .now)) (65536 * x .tolerance) tilt) (65536 * x .tolerance) (x .first) (a .loop .xb) (a .loop .vb) (a .loop .qb) _ _ _ (a .loop .c) (q .ask2 .result .rate) (q .ask2 .result .at) (a .loop .n)
-          (tilt * a .loop .c + tilt - 2 * (65536 * x .tolerance) - d .scaled-at2 .result) (c .add2 .result)
+      added (mirror (scaled (x .samples .now)) (65536 * x .tolerance) tilt) (65536 * x .tolerance) (x .first) (mlim (a .before .before)) (a .loop .xb) (a .loop .vb) (a .loop .qb) _ _ _ (a .loop .c) (q .ask2 .result .rate) (q .ask2 .result .at) (a .loop .n)
+          ((tilt + 1) * a .loop .c + tilt - 2 * (65536 * x .tolerance) - d .scaled-at2 .result) (c .add2 .result)
           (nextB q) (a .loop .inv .4 .ends) (c .add2 .ensures .0) (c .add2 .ensures .2) (c .add2 .ensures .3)
           (heightB d),
     )
