@@ -1,0 +1,50 @@
+-- The two halves of the search for the longest run: the chain of the samples, and that of the samples upside down.
+use mathlib.Core.Path.{_≡_, refl, sym, ap, subst, _∙_}
+use mathlib.Core.List.{List}
+use Prim.Native.Nat.{ℕ, suc, _+_, _*_, _-_, _≤_, _<_}
+use native.Mathlib.Omega.{arith}
+use lib.ListN.{length, getD, set, length-set}
+use lib.Seq.{getD-set-same}
+use Rattle.fit.specs.Rates.{lo, rowLo, tilt}
+use Rattle.fit.specs.Chains.{Order, Chain, Safe, Full, Asked, Added}
+use Rattle.fit.proofs.Hull.{chain-one}
+use Rattle.fit.proofs.Steps.{lo-step}
+
+pub record Half (g : ℕ → ℕ) (w f : ℕ) (x v q : List ℕ) (c l i j : ℕ) : Type 0 where
+  pub full : Full x v q
+  pub rate : l ≡ lo g w tilt f c
+  pub ends : j < c
+  pub chain : Chain g tilt f x v q i j c l
+
+pub record Next (g : ℕ → ℕ) (w f : ℕ) (x v q : List ℕ) (c p i j : ℕ) : Type 0 where
+  pub rate : p ≡ lo g w tilt f (c + 1)
+  pub chain : Chain g tilt f x v q i j c p
+
+module _ (g : ℕ → ℕ) (w f : ℕ) where
+  pub first : (x v q : List ℕ) (a : ℕ) → Full x v q → a ≡ g f → Half g w f (set x 0 0) (set v 0 a) q 1 0 0 0
+  unfolding lo rowLo
+  first x v q a u h = record {
+    full = record { full-x = simp length-set (u .full-x); full-v = simp length-set (u .full-v); full-q = u .full-q };
+    rate = refl;
+    ends = omega arith;
+    chain = chain-one g tilt f (set x 0 0) (set v 0 a) q (getD-set-same x 0 0 0 (omega (arith, u .full-x)))
+        (getD-set-same v 0 a 0 (omega (arith, u .full-v)) ∙ h ∙ ap g (plain f));
+  }
+    where
+      plain : (f : ℕ) → f ≡ f + 0
+      plain f = omega arith
+
+  module _ (bound : (i : ℕ) → g i + 2 * w ≤ tilt) where
+    pub safe : (x v q : List ℕ) (i j c b : ℕ) → b ≤ 2 * w → Order g tilt f x v q i j c → Safe tilt x v i j c b
+    safe x v q i j c b h o = record {
+      some = o .some;
+      before = o .before;
+      small = λ k d e. omega (arith, o .value k d e, bound (f + getD x k 0));
+    }
+
+  pub asked : (x v q : List ℕ) (c l i j a b k p : ℕ) → Half g w f x v q c l i j → Asked tilt x v q i j c a b l k p → b ≡ 2 * w → a ≡ g (f + c) → Next g w f x v q c p k j
+  asked x v q c l i j a b k p h r e d = let n = r g f w e d (h .chain) in record { rate = lo-step g w tilt f c l p (h .rate) (n .0); chain = n .1 }
+
+  pub added : (x v q x′ v′ q′ : List ℕ) (c p i j a y : ℕ) → Next g w f x v q c p i j → j < c → Full x′ v′ q′ → y ≤ j + 1 → Added tilt x v q i j c a x′ v′ q′ y → a ≡ g (f + c)
+      → Half g w f x′ v′ q′ (c + 1) p i y
+  added x v q x′ v′ q′ c p i j a y n h u k r e = record { full = u; rate = n .rate; ends = omega arith; chain = r g f p e (n .chain) }

@@ -1,0 +1,10 @@
+pub mod Tests
+pub mod Diff
+pub mod Greedy
+pub mod Pairs
+pub mod Hull
+pub mod Mirror
+pub mod Walk
+pub mod Steps
+pub mod Halves
+pub mod Lines

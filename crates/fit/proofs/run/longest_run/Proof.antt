@@ -1,0 +1,212 @@
+-- `fit::longest_run` meets its contract.
+use mathlib.Core.Path.{_≡_, refl, sym, ap, subst, _∙_}
+use mathlib.Core.List.{List}
+use Prim.Native.Nat.{ℕ, _+_, _*_, _-_, _≤_, _<_}
+use native.Mathlib.Omega.{arith}
+use borrow.Author.Needs.{needs}
+use lib.ListN.{length}
+use Rattle.fit.specs.Greedy.{grow}
+use Rattle.fit.specs.Rates.{scaled, tilt, fitOf, hi, mirror}
+use Rattle.fit.proofs.Lines.{bound}
+use Rattle.fit.proofs.Mirror.{mirror-bound, hi-mirror, lo-top}
+use Rattle.fit.proofs.Steps.{fit-yes, fit-no, grow-yes, grow-no, grow-end}
+use Rattle.fit.proofs.Halves.{Half, Next, first, safe, asked, added}
+use Rattle.fit.proofs.run.longest_run.Statement.{statement}
+use Rattle.fit.proofs.run.longest_run.Tie as tie
+
+abbrev Inv-loop : tie.InvT-loop
+Inv-loop s t f most xa₀ va₀ qa₀ xb₀ vb₀ qb₀ v g c₀ l₀ h₀ i₀ j₀ k₀ n₀ xa va qa xb vb qb c l h i j k n =
+    (1 ≤ c) × (c ≤ most) × (grow (fitOf s t) (most - c) f c ≡ grow (fitOf s t) (most - 1) f 1)
+    × Half (scaled s) (65536 * t) f xa va qa c l i j × Half (mirror (scaled s) (65536 * t) tilt) (65536 * t) f xb vb qb c h k n
+
+abbrev μ-loop : tie.MeasureT-loop
+μ-loop s t f most xa₀ va₀ qa₀ xb₀ vb₀ qb₀ v g c₀ l₀ h₀ i₀ j₀ k₀ n₀ xa va qa xb vb qb c l h i j k n =
+    most - c
+
+turned : (g : ℕ → ℕ) (w i a : ℕ) → a ≡ g i → tilt - 2 * w - a ≡ mirror g w tilt i
+unfolding mirror
+turned g w i a e = ap (λ (z : ℕ). tilt - 2 * w - z) e
+
+-- the samples' bounds, from the start
+lim : (c : tie.Start Inv-loop μ-loop) (i : ℕ) → scaled (c .args .samples .now) i + 2 * (65536 * c .args .tolerance) ≤ tilt
+lim c = bound (c .args .samples .now) (c .args .tolerance) (c .pre .1 .0) (c .pre .1 .1 .0)
+
+mul-v : tie.Need-mul-v Inv-loop μ-loop
+mul-v c = omega arith
+
+mul-v-2 : tie.Need-mul-v-2 Inv-loop μ-loop
+mul-v-2 c = omega arith
+
+scaled-at-requires : tie.Need-scaled-at-requires Inv-loop μ-loop
+scaled-at-requires c κs = (omega arith, c .pre .1 .0)
+
+element-write-xa : tie.Need-element-write-xa Inv-loop μ-loop
+element-write-xa c = search needs
+
+element-write-va : tie.Need-element-write-va Inv-loop μ-loop
+element-write-va c = search needs
+
+element-write-xb : tie.Need-element-write-xb Inv-loop μ-loop
+element-write-xb c = search needs
+
+sub-vb : tie.Need-sub-vb Inv-loop μ-loop
+sub-vb c = omega (arith, lim (c .before) (c .before .args .first))
+
+sub-vb-2 : tie.Need-sub-vb-2 Inv-loop μ-loop
+sub-vb-2 c = omega (arith, lim (c .before) (c .before .args .first))
+
+element-write-vb : tie.Need-element-write-vb Inv-loop μ-loop
+element-write-vb c = search needs
+
+loop-holds : tie.Need-loop-holds Inv-loop μ-loop
+loop-holds c = let y = c .before .args in let w = 65536 * y .tolerance in let u = c .before .pre .1 .1 .1 in (
+  omega arith,
+  omega arith,
+  refl,
+  first (scaled (y .samples .now)) w (y .first) (y .xa .now) (y .va .now) (y .qa .now) (c .scaled-at .result) (u .0) (c .scaled-at .ensures),
+  first (mirror (scaled (y .samples .now)) w tilt) w (y .first) (y .xb .now) (y .vb .now) (y .qb .now) (tilt - 2 * w - c .scaled-at .result) (u .1) (turned (scaled (y .samples .now)) w (y .first) (c .scaled-at .result) (c .scaled-at .ensures)),
+)
+
+add-scaled-at : tie.Need-add-scaled-at Inv-loop μ-loop
+add-scaled-at c = omega arith
+
+scaled-at-requires-2 : tie.Need-scaled-at-requires-2 Inv-loop μ-loop
+scaled-at-requires-2 c κs = (omega arith, c .before .before .before .pre .1 .0)
+
+sub-b : tie.Need-sub-b Inv-loop μ-loop
+sub-b c = omega (arith, lim (c .before .before .before .before) (c .before .before .before .before .args .first + c .before .before .loop .c))
+
+sub-b-2 : tie.Need-sub-b-2 Inv-loop μ-loop
+sub-b-2 c = omega (arith, lim (c .before .before .before .before) (c .before .before .before .before .args .first + c .before .before .loop .c))
+
+-- the halves after the sample is asked of them
+nextA : (c : tie.After-ask Inv-loop μ-loop) → let a = c .before .before .before .before .before .before in let y = a .before .before .args in
+    Next (scaled (y .samples .now)) (65536 * y .tolerance) (y .first) (a .loop .xa) (a .loop .va) (a .loop .qa) (a .loop .c) (c .ask .result .rate) (c .ask .result .at) (a .loop .j)
+nextA c = let d = c .before .before .before .before in let a = d .before .before in let y = a .before .before .args in
+    asked (scaled (y .samples .now)) (65536 * y .tolerance) (y .first) (a .loop .xa) (a .loop .va) (a .loop .qa) (a .loop .c) (a .loop .l) (a .loop .i) (a .loop .j)
+    (d .scaled-at2 .result) (2 * (65536 * y .tolerance)) (c .ask .result .at) (c .ask .result .rate) (a .loop .inv .3) (c .ask .ensures .2) refl (d .scaled-at2 .ensures)
+
+nextB : (c : tie.After-ask2 Inv-loop μ-loop) → let a = c .before .before .before .before .before .before .before .before .before .before in let y = a .before .before .args in
+    Next (mirror (scaled (y .samples .now)) (65536 * y .tolerance) tilt) (65536 * y .tolerance) (y .first) (a .loop .xb) (a .loop .vb) (a .loop .qb) (a .loop .c) (c .ask2 .result .rate) (c .ask2 .result .at) (a .loop .n)
+nextB c = let d = c .before .before .before .before .before .before .before .before in let a = d .before .before in let y = a .before .before .args in
+    asked (mirror (scaled (y .samples .now)) (65536 * y .tolerance) tilt) (65536 * y .tolerance) (y .first) (a .loop .xb) (a .loop .vb) (a .loop .qb) (a .loop .c) (a .loop .h) (a .loop .k) (a .loop .n)
+    (tilt - 2 * (65536 * y .tolerance) - d .scaled-at2 .result) (2 * (65536 * y .tolerance)) (c .ask2 .result .at) (c .ask2 .result .rate) (a .loop .inv .4) (c .ask2 .ensures .2) refl
+    (turned (scaled (y .samples .now)) (65536 * y .tolerance) (y .first + a .loop .c) (d .scaled-at2 .result) (d .scaled-at2 .ensures))
+
+mlim : (c : tie.Start Inv-loop μ-loop) (i : ℕ) → mirror (scaled (c .args .samples .now)) (65536 * c .args .tolerance) tilt i + 2 * (65536 * c .args .tolerance) ≤ tilt
+mlim c = mirror-bound (scaled (c .args .samples .now)) (65536 * c .args .tolerance) tilt (lim c)
+
+-- the greatest rate, and that neither rate is above twice the tilt
+high : (c : tie.After-ask2 Inv-loop μ-loop) → let a = c .before .before .before .before .before .before .before .before .before .before in let y = a .before .before .args in
+    (2 * tilt - c .ask2 .result .rate ≡ hi (scaled (y .samples .now)) (65536 * y .tolerance) tilt (y .first) (a .loop .c + 1)) × (c .ask2 .result .rate ≤ 2 * tilt)
+high c = let a = c .before .before .before .before .before .before .before .before .before .before in let y = a .before .before .args in let r = nextB c .rate in (
+  omega (arith, r, hi-mirror (scaled (y .samples .now)) (65536 * y .tolerance) tilt (lim (a .before .before)) (y .first) (a .loop .c + 1)),
+  omega (arith, r, lo-top (mirror (scaled (y .samples .now)) (65536 * y .tolerance) tilt) (65536 * y .tolerance) tilt (mlim (a .before .before)) (y .first) (a .loop .c + 1)),
+)
+
+low : (c : tie.After-ask Inv-loop μ-loop) → c .ask .result .rate ≤ 2 * tilt
+low c = let a = c .before .before .before .before .before .before in let y = a .before .before .args in
+    omega (arith, nextA c .rate, lo-top (scaled (y .samples .now)) (65536 * y .tolerance) tilt (lim (a .before .before)) (y .first) (a .loop .c + 1))
+
+-- the run is not yet the longest
+short : (c : tie.In-loop Inv-loop μ-loop) → c .before .loop .c < 1024
+short c = omega arith
+
+ask-requires : tie.Need-ask-requires Inv-loop μ-loop
+ask-requires c κs = let d = c .before .before .before in let a = d .before .before in let u = a .before .before in let y = u .args in (
+  safe (scaled (y .samples .now)) (65536 * y .tolerance) (y .first) (lim u) (a .loop .xa) (a .loop .va) (a .loop .qa) (a .loop .i) (a .loop .j) (a .loop .c) (2 * (65536 * y .tolerance)) (omega arith) (a .loop .inv .3 .chain .order),
+  (omega (arith, short (d .before), a .loop .inv .3 .ends), omega (arith, short (d .before)), omega (arith, d .scaled-at2 .ensures, lim u (y .first + a .loop .c))),
+)
+
+ask-requires-2 : tie.Need-ask-requires-2 Inv-loop μ-loop
+ask-requires-2 c κs = let d = c .before .before .before .before .before .before .before in let a = d .before .before in let u = a .before .before in let y = u .args in (
+  safe (mirror (scaled (y .samples .now)) (65536 * y .tolerance) tilt) (65536 * y .tolerance) (y .first) (mlim u) (a .loop .xb) (a .loop .vb) (a .loop .qb) (a .loop .k) (a .loop .n) (a .loop .c) (2 * (65536 * y .tolerance)) (omega arith) (a .loop .inv .4 .chain .order),
+  (omega (arith, short (d .before), a .loop .inv .4 .ends), omega (arith, short (d .before)), omega arith),
+)
+
+add-if1 : tie.Need-add-if1 Inv-loop μ-loop
+add-if1 c = let q = c .before .before in omega (arith, high q .1, low (q .before .before .before .before))
+
+returns : tie.Need-returns Inv-loop μ-loop
+returns c = let e = c .before .before in let q = e .before in let a = q .before .before .before .before .before .before .before .before .before .before in let x = a .before .before .args in (
+  (
+    sym (grow-no (fitOf (x .samples .now) (x .tolerance)) (x .first) (x .most) (a .loop .c) (q .before .before .before .before .before .before .before .before .before .loop-test .taken)
+        (fit-no (x .samples .now) (x .tolerance) (x .first) (a .loop .c + 1) _ _ (nextA (q .before .before .before .before) .rate) (high q .0) (omega (arith, c .if1 .taken, high q .1)))) ∙ a .loop .inv .2,
+    a .loop .inv .3 .rate,
+  ),
+  (a .loop .inv .3 .full, a .loop .inv .4 .full),
+)
+
+add-requires : tie.Need-add-requires Inv-loop μ-loop
+add-requires c κs = let e = c .before .before .before in let q = e .before .before .before in let k = q .before .before .before .before in let d = k .before .before .before .before in
+    let a = d .before .before in let u = a .before .before in let y = u .args in (
+      safe (scaled (y .samples .now)) (65536 * y .tolerance) (y .first) (lim u) (a .loop .xa) (a .loop .va) (a .loop .qa) (k .ask .result .at) (a .loop .j) (a .loop .c) 0 (omega arith) (nextA k .chain .order),
+      ((omega (arith, short (d .before), a .loop .inv .3 .ends), omega (arith, short (d .before)), omega (arith, d .scaled-at2 .ensures, lim u (y .first + a .loop .c))), a .loop .inv .3 .full),
+    )
+
+add-requires-2 : tie.Need-add-requires-2 Inv-loop μ-loop
+add-requires-2 c κs = let e = c .before .before .before .before .before .before .before in let q = e .before .before .before in let k = q .before .before .before .before in let d = k .before .before .before .before in
+    let a = d .before .before in let u = a .before .before in let y = u .args in (
+      safe (mirror (scaled (y .samples .now)) (65536 * y .tolerance) tilt) (65536 * y .tolerance) (y .first) (mlim u) (a .loop .xb) (a .loop .vb) (a .loop .qb) (q .ask2 .result .at) (a .loop .n) (a .loop .c) 0 (omega arith) (nextB q .chain .order),
+      ((omega (arith, short (d .before), a .loop .inv .4 .ends), omega (arith, short (d .before)), omega arith), a .loop .inv .4 .full),
+    )
+
+add-c : tie.Need-add-c Inv-loop μ-loop
+add-c c = let e = c .before .before .before .before .before .before .before .before in let q = e .before .before .before in let k = q .before .before .before .before in let d = k .before .before .before .before in
+    let a = d .before .before in omega (arith, short (d .before))
+
+loop-less : tie.Need-loop-less Inv-loop μ-loop
+loop-less c = let e = c .before .before .before .before .before .before .before .before in let q = e .before .before .before in let k = q .before .before .before .before in let d = k .before .before .before .before in
+    let a = d .before .before in omega (arith, d .before .loop-test .taken)
+
+loop-again : tie.Need-loop-again Inv-loop μ-loop
+loop-again c = let e = c .before .before .before .before .before .before .before .before in let q = e .before .before .before in let k = q .before .before .before .before in let d = k .before .before .before .before in
+    let a = d .before .before in let x = a .before .before .args in let z = c .before .before .before .before in (
+      omega arith,
+      omega (arith, d .before .loop-test .taken),
+      grow-yes (fitOf (x .samples .now) (x .tolerance)) (x .first) (x .most) (a .loop .c) (d .before .loop-test .taken)
+          (fit-yes (x .samples .now) (x .tolerance) (x .first) (a .loop .c + 1) _ _ (nextA k .rate) (high q .0) (omega (arith, e .if1 .left, high q .1))) ∙ a .loop .inv .2,
+      added (scaled (x .samples .now)) (65536 * x .tolerance) (x .first) (a .loop .xa) (a .loop .va) (a .loop .qa) _ _ _ (a .loop .c) (k .ask .result .rate) (k .ask .result .at) (a .loop .j) (d .scaled-at2 .result) (z .add .result)
+          (nextA k) (a .loop .inv .3 .ends) (z .add .ensures .0) (z .add .ensures .2) (z .add .ensures .3) (d .scaled-at2 .ensures),
+      added (mirror (scaled (x .samples .now)) (65536 * x .tolerance) tilt) (65536 * x .tolerance) (x .first) (a .loop .xb) (a .loop .vb) (a .loop .qb) _ _ _ (a .loop .c) (q .ask2 .result .rate) (q .ask2 .result .at) (a .loop .n)
+          (tilt - 2 * (65536 * x .tolerance) - d .scaled-at2 .result) (c .add2 .result)
+          (nextB q) (a .loop .inv .4 .ends) (c .add2 .ensures .0) (c .add2 .ensures .2) (c .add2 .ensures .3)
+          (turned (scaled (x .samples .now)) (65536 * x .tolerance) (x .first + a .loop .c) (d .scaled-at2 .result) (d .scaled-at2 .ensures)),
+    )
+
+returns-2 : tie.Need-returns-2 Inv-loop μ-loop
+returns-2 c = let a = c .before in let x = a .before .before .args in (
+  (sym (grow-end (fitOf (x .samples .now) (x .tolerance)) (x .first) (x .most) (a .loop .c) (c .loop-test .left)) ∙ a .loop .inv .2, a .loop .inv .3 .rate),
+  (a .loop .inv .3 .full, a .loop .inv .4 .full),
+)
+
+pub longest-run-spec : {M : Type 1} → statement M
+longest-run-spec =
+    tie.close
+    (tie.spec
+    Inv-loop
+    μ-loop
+    mul-v
+    mul-v-2
+    scaled-at-requires
+    element-write-xa
+    element-write-va
+    element-write-xb
+    sub-vb
+    sub-vb-2
+    element-write-vb
+    loop-holds
+    add-scaled-at
+    scaled-at-requires-2
+    sub-b
+    sub-b-2
+    ask-requires
+    ask-requires-2
+    add-if1
+    returns
+    add-requires
+    add-requires-2
+    add-c
+    loop-less
+    loop-again
+    returns-2)

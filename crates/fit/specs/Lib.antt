@@ -1,0 +1,4 @@
+pub mod Line
+pub mod Greedy
+pub mod Rates
+pub mod Chains

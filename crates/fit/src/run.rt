@@ -1,0 +1,99 @@
+// The longest run of samples from a given one that some line fits.
+ghost use mathlib.Core.Path.{_≡_};
+ghost use Prim.Native.Nat.{ℕ, _+_, _*_, _-_, _<_, _≤_};
+ghost use lib.ListN.{length};
+ghost use Rattle.fit.specs.Greedy.{grow};
+ghost use Rattle.fit.specs.Line.{Small};
+ghost use Rattle.fit.specs.Rates.{fitOf, least};
+ghost use Rattle.fit.specs.Chains.{Full};
+use super::chain::add;
+use super::chain::ask;
+use super::samples::scaled_at;
+
+// A run: its number of samples, and the least rate that they leave, tilted.
+pub struct Run {
+    pub count: usize,
+    pub least: u64,
+}
+
+// The longest run of at most `most` samples from `first` that some line fits: found by two chains, one of the samples and one of the samples
+// turned over, which the arrays are lent to hold.
+pub fn longest_run(
+    samples: &[i64],
+    tolerance: u64,
+    first: usize,
+    most: usize,
+    xa: &mut [u64; 1024],
+    va: &mut [u64; 1024],
+    qa: &mut [u64; 1024],
+    xb: &mut [u64; 1024],
+    vb: &mut [u64; 1024],
+    qb: &mut [u64; 1024],
+) -> Run
+    requires { ⌜ (1 ≤ most) × (most ≤ 1024) × (first + most ≤ length (now samples)) ⌝ }
+    requires { ⌜ Small (now samples) ⌝ }
+    requires { ⌜ tolerance ≤ 1_000_000 ⌝ }
+    requires { ⌜ Full (now xa) (now va) (now qa) × Full (now xb) (now vb) (now qb) ⌝ }
+    ensures { λ r. ⌜ (r .count ≡ grow (fitOf (now (samples .entry)) tolerance) (most - 1) first 1) × (r .least ≡ least (now (samples .entry)) tolerance first (r .count)) ⌝ }
+    ensures { λ _. ⌜ Full (now (xa .exit)) (now (va .exit)) (now (qa .exit)) × Full (now (xb .exit)) (now (vb .exit)) (now (qb .exit)) ⌝ }
+{
+    let v = 2 * (65536 * tolerance);
+    let g = scaled_at(samples, first);
+    xa[0] = 0;
+    va[0] = g;
+    xb[0] = 0;
+    vb[0] = 17_040_000_000_000_000 - v - g;
+    let mut c: usize = 1;
+    let mut l: u64 = 0;
+    let mut h: u64 = 0;
+    let mut i: usize = 0;
+    let mut j: usize = 0;
+    let mut k: usize = 0;
+    let mut n: usize = 0;
+    while c < most {
+        let m = c as u64;
+        let a = scaled_at(samples, first + c);
+        let b = 17_040_000_000_000_000 - v - a;
+        let p = ask(xa, va, qa, i, j, m, a, v, l);
+        let r = ask(xb, vb, qb, k, n, m, b, v, h);
+        if 34_080_000_000_000_000 < p.rate + r.rate {
+            return Run { count: c, least: l };
+        }
+        l = p.rate;
+        h = r.rate;
+        i = p.at;
+        k = r.at;
+        j = add(xa, va, qa, i, j, m, a);
+        n = add(xb, vb, qb, k, n, m, b);
+        c += 1;
+    }
+    Run { count: c, least: l }
+}
+
+// Whether some line fits the `count` samples from `first`.
+pub fn fits_part(samples: &[i64], tolerance: u64, first: usize, count: usize) -> bool
+    requires { ⌜ (1 ≤ count) × (count ≤ 1024) × (first + count ≤ length (now samples)) ⌝ }
+    requires { ⌜ Small (now samples) ⌝ }
+    requires { ⌜ tolerance ≤ 1_000_000 ⌝ }
+    ensures { λ r. ⌜ r ≡ fitOf (now (samples .entry)) tolerance first count ⌝ }
+{
+    let mut xa: [u64; 1024] = [0; 1024];
+    let mut va: [u64; 1024] = [0; 1024];
+    let mut qa: [u64; 1024] = [0; 1024];
+    let mut xb: [u64; 1024] = [0; 1024];
+    let mut vb: [u64; 1024] = [0; 1024];
+    let mut qb: [u64; 1024] = [0; 1024];
+    let run = longest_run(
+        samples,
+        tolerance,
+        first,
+        count,
+        &mut xa,
+        &mut va,
+        &mut qa,
+        &mut xb,
+        &mut vb,
+        &mut qb,
+    );
+    run.count == count
+}

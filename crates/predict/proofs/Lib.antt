@@ -1,0 +1,6 @@
+pub mod Reach
+pub mod Bools
+pub mod Numbers
+pub mod Answers
+pub mod Own
+pub mod Cases

@@ -1,0 +1,53 @@
+-- What the call `track` answers in each case; that it is refused with 8 exactly if no track of the samples fits the room; that the promise allows one result.
+use mathlib.Core.Path.{_≡_, refl, sym, ap, subst, _∙_}
+use mathlib.Core.Bool.{Bool, true, false, cond}
+use mathlib.Core.List.{List, _++_}
+use mathlib.Core.Logic.{_↔_, ⊎-elim}
+use Prim.Native.Nat.{ℕ, _+_, _*_, _/_, _≤_, _<_}
+use native.Mathlib.Omega.{arith}
+use borrow.Author.Tests.{lt-leb, le-leb}
+use lib.Dec.{leb}
+use lib.ListN.{length, drop}
+use lib.IntN.{ℤ, pos}
+use Rattle.whole.specs.Whole.{P}
+use Rattle.fit.proofs.Tests.{lt-or}
+use Rattle.track.specs.Segments.{Segment, IsTrack, flat}
+use Rattle.track.specs.Rule.{Ruled}
+use Rattle.track.specs.Made.{trackOf}
+use Rattle.track.specs.Answer.{inRange, Outcome, refused, written, outcome}
+use Rattle.track.proofs.Each.{Ranged, ranged}
+use Rattle.track.proofs.Theorems.{trackOf-ruled, trackOf-track, trackOf-fewest, trackOf-half}
+
+-- any two results that the promise allows are equal
+pub one-result : (s : List ℤ) (t : ℤ) (room : List ℤ) (x y : Outcome) → x ≡ outcome s t room → y ≡ outcome s t room → x ≡ y
+one-result s t room x y p q = p ∙ sym q
+
+module _ (s : List ℤ) (t : ℤ) (room : List ℤ) where
+  pub answer-2 : inRange s t ≡ false → outcome s t room ≡ refused 2 room
+  unfolding outcome
+  answer-2 h = rw h
+
+  module _ (h : inRange s t ≡ true) where
+    pub answer-8 : length room / 4 < length (trackOf s (P t)) → outcome s t room ≡ refused 8 room
+    unfolding outcome
+    answer-8 k = rw (h, lt-leb (length (trackOf s (P t))) (length room / 4) k)
+
+    pub answer-0 : length (trackOf s (P t)) ≤ length room / 4 → outcome s t room ≡ written (trackOf s (P t)) room
+    unfolding outcome
+    answer-0 k = rw (h, le-leb (length (trackOf s (P t))) (length room / 4) k)
+
+    -- THE THEOREM of demand 3 on room: refused with 8 exactly if every track of the samples has more segments than the room has places
+    pub eight-exactly : (outcome s t room .answer .refusal ≡ pos 8) ↔ ((xs : List Segment) → IsTrack s (P t) xs → length room / 4 < length xs)
+    eight-exactly = (fore, back)
+      where
+        fore : outcome s t room .answer .refusal ≡ pos 8 → (xs : List Segment) → IsTrack s (P t) xs → length room / 4 < length xs
+        fore e xs k = ⊎-elim (λ l. omega (arith, trackOf-fewest s (P t) (ranged s t h .small) (ranged s t h .tol) xs k))
+            (λ l. absurd (let n : pos 0 ≡ pos 8 = sym (ap (λ (o : Outcome). o .answer .refusal) (answer-0 l)) ∙ e in let z : _≡_ {A = ℕ} 0 8 = cc in omega arith))
+            (lt-or (length room / 4) (length (trackOf s (P t))))
+
+        back : ((xs : List Segment) → IsTrack s (P t) xs → length room / 4 < length xs) → outcome s t room .answer .refusal ≡ pos 8
+        back k = ap (λ (o : Outcome). o .answer .refusal) (answer-8 (k (trackOf s (P t)) (trackOf-track s (P t) (ranged s t h .small) (ranged s t h .tol))))
+
+    -- room for 2,048 segments is always enough
+    pub always-enough : 2048 ≤ length room / 4 → outcome s t room ≡ written (trackOf s (P t)) room
+    always-enough k = answer-0 (omega (arith, trackOf-half s (P t) (ranged s t h .small) (ranged s t h .tol), ranged s t h .few))

@@ -1,0 +1,6 @@
+pub mod Theorems
+pub mod Runs
+pub mod Room
+pub mod Each
+pub mod Answers
+pub mod Cases

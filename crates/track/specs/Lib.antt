@@ -1,0 +1,4 @@
+pub mod Segments
+pub mod Rule
+pub mod Made
+pub mod Answer

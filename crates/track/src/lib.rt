@@ -1,0 +1,43 @@
+// The track of samples: the fewest segments, each within the tolerance of its samples. Document 01, 'Track'.
+// specs/Segments.antt says what a track is, specs/Rule.antt which one is made, specs/Answer.antt what the call answers.
+ghost use mathlib.Core.Path.{_≡_};
+ghost use Rattle.track.specs.Answer.{Outcome, outcome};
+
+pub mod count;
+pub mod range;
+pub mod write;
+
+// What a call answers: 0 or the refusal's number, and a value, which is 0 where refused.
+#[repr(C)]
+pub struct Number {
+    pub refusal: i64,
+    pub value: i64,
+}
+
+// Writes the track of the samples to the start of the room, four numbers to a segment, and answers how many segments that is.
+pub fn track(samples: &[i64], tolerance: i64, room: &mut [i64]) -> Number
+    ensures { λ r. ⌜ _≡_ {A = Outcome} (record { answer = r; room = now (room .exit) }) (outcome (now (samples .entry)) tolerance (now (room .entry))) ⌝ }
+{
+    if !range::in_range(samples, tolerance) {
+        return Number {
+            refusal: 2,
+            value: 0,
+        };
+    }
+    let mut counts: [usize; 2048] = [0; 2048];
+    let mut rates: [u64; 2048] = [0; 2048];
+    let t = tolerance as u64;
+    let m = count::count_segments(samples, t, &mut counts, &mut rates);
+    let places = room.len() / 4;
+    if places < m {
+        return Number {
+            refusal: 8,
+            value: 0,
+        };
+    }
+    write::write_segments(samples, t, &counts, &rates, m, room);
+    Number {
+        refusal: 0,
+        value: m as i64,
+    }
+}
