@@ -1,0 +1,87 @@
+// Ticks, epochs, and Earth rotation.
+use earth::AngleAnswer;
+use earth::EpochAnswer;
+use earth::NumberAnswer;
+use earth::TicksAnswer;
+ghost use mathlib.Core.Path.{_≡_};
+ghost use Rattle.sine.specs.Sine.{sineOf, cosineOf};
+ghost use Rattle.earth.specs.Rotation.{rotationOf};
+ghost use Rattle.earth.specs.Calls.{laterOutcome, argumentsOutcome, tideOutcome, angleOutcome};
+ghost use Rattle.host.specs.Nine.{nineOf};
+
+// Three rows of three, row after row.
+#[repr(C)]
+pub struct Rotation {
+    pub xx: i64,
+    pub xy: i64,
+    pub xz: i64,
+    pub yx: i64,
+    pub yy: i64,
+    pub yz: i64,
+    pub zx: i64,
+    pub zy: i64,
+    pub zz: i64,
+}
+
+#[no_mangle]
+pub extern "C" fn fringe_sine(tick: u32) -> i64
+    ensures { λ r. ⌜ r ≡ sineOf tick ⌝ }
+{
+    sine::sine(tick)
+}
+
+#[no_mangle]
+pub extern "C" fn fringe_cosine(tick: u32) -> i64
+    ensures { λ r. ⌜ r ≡ cosineOf tick ⌝ }
+{
+    sine::cosine(tick)
+}
+
+#[no_mangle]
+pub extern "C" fn fringe_later(day: i64, ms: i64, add: i64) -> EpochAnswer
+    ensures { λ r. ⌜ r ≡ laterOutcome day ms add ⌝ }
+{
+    earth::later(day, ms, add)
+}
+
+#[no_mangle]
+pub extern "C" fn fringe_arguments(day: i64, ms: i64, tai: i64) -> TicksAnswer
+    ensures { λ r. ⌜ r ≡ argumentsOutcome day ms tai ⌝ }
+{
+    earth::arguments(day, ms, tai)
+}
+
+#[no_mangle]
+pub extern "C" fn fringe_tide(day: i64, ms: i64, tai: i64) -> NumberAnswer
+    ensures { λ r. ⌜ r ≡ tideOutcome day ms tai ⌝ }
+{
+    earth::tide(day, ms, tai)
+}
+
+#[no_mangle]
+pub extern "C" fn fringe_angle_at(day: i64, f: i64) -> AngleAnswer
+    ensures { λ r. ⌜ r ≡ angleOutcome day f ⌝ }
+{
+    earth::angle_at(day, f)
+}
+
+#[no_mangle]
+pub extern "C" fn fringe_rotate(tick: u32) -> Rotation
+    ensures { λ r. ⌜ r ≡ nineOf (rotationOf tick) ⌝ }
+{
+    let rows = earth::rotate(tick);
+    let x = rows[0];
+    let y = rows[1];
+    let z = rows[2];
+    Rotation {
+        xx: x[0],
+        xy: x[1],
+        xz: x[2],
+        yx: y[0],
+        yy: y[1],
+        yz: y[2],
+        zx: z[0],
+        zy: z[1],
+        zz: z[2],
+    }
+}

@@ -1,0 +1,184 @@
+/*
+ * Erlensieg: the model of a fringe check, for the correlator's host.
+ *
+ * From a session file to Earth rotation, delays, delay samples, tracks, and the delay that a track predicts. Link with libhost.a, which
+ * examples/run-host builds (x86-64 Linux); it needs no other library and keeps nothing between calls, so calls may run at the same time.
+ *
+ * Units
+ *   tick               1/2^32 of a turn, 0 to 2^32 - 1
+ *   length             millimetres
+ *   delay, tolerance   picoseconds
+ *   pole x, y          microarcseconds
+ *   UT1-UTC, tide      nanoseconds
+ *   TAI-UTC            seconds
+ *   day                MJD, 41,317 to 69,806; an epoch is a day and a UTC millisecond of it, 0 to 86,399,999
+ *   sine, cosine       scaled by 2^30
+ *   offset, rate       of a segment: 1/65,536 picosecond, and that for each sample
+ *
+ * Refusals
+ *   Every call answers every input. A struct's `refusal` is 0, or the lowest of these numbers that applies; then its other fields are 0.
+ *     1  file over 65,536 bytes, or its contents table or length not as they must be, counts included (the writer: counts)
+ *     2  a field of the file, or an argument of the call, outside its range
+ *     3  station or source ids do not rise
+ *     4  orientation days not consecutive
+ *     5  station, source or pass asked for is not there; so is an index beyond the last record
+ *     6  an epoch, or any sample's epoch, lacks the orientation record of its day or of the next day
+ *     7  lent room for samples, or for a file, too short
+ *     8  no track fits the lent room
+ *     9  sample not covered, or the lent track malformed (see fringe_predict)
+ *
+ * Lent memory
+ *   A slice is a pointer and a length: a `const` one is read only, another is room that the call may write. Lengths of number slices count
+ *   numbers, those of bytes bytes. What is written starts at the room's first place; the rest of the room stays as it was, and after a refusal
+ *   all of it does. Nothing lent is kept after the call. Slices lent to one call do not overlap. An empty slice has length 0, and its pointer may be any
+ *   pointer of its type that is aligned and not null (a pointer to any object of that type will do); its target is never touched.
+ *   The pointers of numbers are aligned to 8 bytes.
+ *
+ * Session file
+ *   All numbers of 8 bytes, little-endian, two's complement. First the contents table: the number of sections, 4; then for kinds 1, 2, 3, 4: kind,
+ *   first byte, record count. Then the four bodies in that order without gaps, the first at byte 104, the last ending the file.
+ *     kind 1, station       id 1-65,535, rising; X, Y, Z within 6,400,000,000 either side                                1 to 64 records
+ *     kind 2, source        id 1-65,535, rising; right ascension 0 to 2^32 - 1; declination within 2^30 either side     1 to 256
+ *     kind 3, orientation   MJD, consecutive; x, y within 1,000,000 either side; UT1-UTC within 900,000,000; TAI-UTC 0-99     2 to 64
+ *     kind 4, pass          ids of station 1, station 2 and source; MJD; UTC millisecond; step 1-3,600,000 ms; samples 1-4,096;
+ *                           tolerance 0-1,000,000                                                                          1 to 64
+ *   A record stands at 0h UTC of its day. UT1-UTC is UT1R, with the short tide removed: the calls below add the tide. A source's place is on the
+ *   intermediate equator of date, right ascension counted from the celestial intermediate origin, both in ticks.
+ */
+#ifndef ERLENSIEG_H
+#define ERLENSIEG_H
+
+#include <stddef.h>
+#include <stdint.h>
+
+#ifdef __cplusplus
+extern "C" {
+#endif
+
+/* one number: see each call */
+struct fringe_number {
+	int64_t refusal, value;
+};
+
+struct fringe_epoch {
+	int64_t refusal, day, ms;
+};
+
+/* n, minutes of TT from J2000; then the five Delaunay arguments l, l', F, D, Omega in ticks */
+struct fringe_ticks {
+	int64_t refusal, n;
+	uint32_t l, lp, f, d, om;
+};
+
+/* E, in 10^-17 of a turn, and the Earth rotation angle ERA, in ticks */
+struct fringe_angle {
+	int64_t refusal, e;
+	uint32_t tick;
+};
+
+/* three rows of three, scaled by 2^30 */
+struct fringe_rotation {
+	int64_t xx, xy, xz, yx, yy, yz, zx, zy, zz;
+};
+
+struct fringe_counts {
+	int64_t refusal, stations, sources, days, passes;
+};
+
+struct fringe_station {
+	int64_t refusal, id, x, y, z;
+};
+
+struct fringe_source {
+	int64_t refusal, id, right_ascension, declination;
+};
+
+struct fringe_day {
+	int64_t refusal, mjd, x, y, ut1_utc, tai_utc;
+};
+
+struct fringe_pass {
+	int64_t refusal, station1, station2, source, mjd, ms, step, samples, tolerance;
+};
+
+/* where a file's refusal arises; it is never refused itself */
+struct fringe_place {
+	int64_t number, section, record, field;
+};
+
+/* two doubles of one prediction */
+struct fringe_record {
+	double seconds, cycles;
+};
+
+struct fringe_host {
+	int64_t refusal;
+	struct fringe_record record;
+};
+
+/* ---- Angles and Earth rotation */
+
+/* The sine and the cosine of a tick, from -2^30 to 2^30. Never refused. */
+int64_t fringe_sine(uint32_t tick);
+int64_t fringe_cosine(uint32_t tick);
+
+/* The epoch that is `add` milliseconds later, 0 to 14,742,000,000; the day reached may pass 69,806. Refusal: 2. */
+struct fringe_epoch fringe_later(int64_t day, int64_t ms, int64_t add);
+
+/* n and the five arguments at an epoch, with TAI-UTC 0 to 99. Refusal: 2. */
+struct fringe_ticks fringe_arguments(int64_t day, int64_t ms, int64_t tai);
+
+/* The short-period tide in UT1 at an epoch, with TAI-UTC 0 to 99: nanoseconds, at most 2,723,000 either side. Refusal: 2. */
+struct fringe_number fringe_tide(int64_t day, int64_t ms, int64_t tai);
+
+/* E and ERA of a day and of f microseconds of UT1 in it, -100,000,000 to 86,500,000,000. Refusal: 2. */
+struct fringe_angle fringe_angle_at(int64_t day, int64_t f);
+
+/* The rotation by a tick: cos, -sin, 0; sin, cos, 0; 0, 0, 2^30. Never refused. */
+struct fringe_rotation fringe_rotate(uint32_t tick);
+
+/* ---- The session file: `n` bytes from `file`. Reading one gives 1 to 4. */
+
+/* Whether the file is accepted, and how many records of each kind it has. Refusals: 1 to 4. */
+struct fringe_counts fringe_check(const uint8_t *file, size_t n);
+
+/*
+ * Where the number that fringe_check gives arises first: number 0 and zeros for an accepted file.
+ * For number 1, section and record are 0, and field is the first wrong 8-byte number of the contents table, counted from 0 to 12, or 13 where the
+ * table is right and the file's length is not. For 2, 3 and 4, section is the kind, 1 to 4, and record and field count from 0; for 3 and 4 the
+ * record is the later of the two that do not follow each other, and field is 0.
+ */
+struct fringe_place fringe_fault(const uint8_t *file, size_t n);
+
+/* The record at an index, counted from 0, of the file's stations, sources, orientation days, passes. Refusals: 1 to 4, and 5 beyond the last. */
+struct fringe_station fringe_station_at(const uint8_t *file, size_t n, uint64_t index);
+struct fringe_source fringe_source_at(const uint8_t *file, size_t n, uint64_t index);
+struct fringe_day fringe_day_at(const uint8_t *file, size_t n, uint64_t index);
+struct fringe_pass fringe_pass_at(const uint8_t *file, size_t n, uint64_t index);
+
+/* ---- Tracks */
+
+/*
+ * The track of `n` samples, 1 to 4,096, each within 130,000,000,000 either side, with a tolerance from 0 to 1,000,000: the fewest segments of all tracks
+ * that keep each sample within the tolerance. `m` numbers from `room` are lent, four to a segment: first sample, samples (1 to 1,024), offset A,
+ * rate r; the numbers behind the last whole segment are not used. value: segments written. 8,192 numbers are always enough.
+ * Refusals: 2; and 8 exactly if no track fits the room.
+ */
+struct fringe_number fringe_track(const int64_t *samples, size_t n, int64_t tolerance, int64_t *room, size_t m);
+
+/*
+ * The delay that a track of `n` numbers predicts at a sample, counted from 0: picoseconds, (A + r j) / 65,536 to the nearest, halves away from zero,
+ * with j counted from the segment's first sample. Numbers behind the last whole segment are not read.
+ * Refusal 9: no segment covers the sample; or any segment has a length outside 1-1,024, leaves a gap or an overlap, the first is not at 0, there are over
+ * 4,096 samples in all, A is beyond 9 10^15 or r beyond 2 10^16 either side, or the prediction at any sample is beyond 131,000,000,000 either side.
+ */
+struct fringe_number fringe_predict(const int64_t *track, size_t n, uint64_t sample);
+
+/* The same prediction as two doubles, each divided once: seconds (ps / 1e12), and cycles of the 32 MHz clock (32 ps / 1e6). Refusal: 9. */
+struct fringe_host fringe_host_at(const int64_t *track, size_t n, uint64_t sample);
+
+#ifdef __cplusplus
+}
+#endif
+
+#endif
