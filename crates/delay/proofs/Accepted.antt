@@ -16,12 +16,12 @@ use Rattle.earth.specs.Ranges.{InDay}
 use Rattle.session.specs.declared.Station.{Station}
 use Rattle.session.specs.declared.Source.{Source}
 use Rattle.session.specs.declared.Day.{Day}
-use Rattle.session.specs.Each.{allBelow}
-use Rattle.session.specs.Layouts.{Layout, station, source, orientation, pass, places, layoutIn, standsIn, noLayout}
-use Rattle.session.specs.File.{refusalOf, contentsRight, sectionsRight, kindsRight, kindRight, countsRight, offsetsRight, lengthRight, idsRight, daysRight, rangesRight, sectionRight, recordRight, fieldRight, present, kindOf, countOf, layoutOf, rangeOf, inside, fieldAt, eqZ}
+use Rattle.sections.specs.Each.{allBelow}
+use Rattle.sections.specs.Layouts.{Layout, station, source, orientation, pass, places, layoutIn, standsIn, noLayout}
+use Rattle.sections.specs.File.{refusalOf, contentsRight, sectionsRight, kindsRight, kindRight, countsRight, offsetsRight, lengthRight, idsRight, daysRight, rangesRight, sectionRight, recordRight, fieldRight, present, kindOf, countOf, layoutOf, rangeOf, inside, fieldAt, eqZ}
 use Rattle.session.specs.Records.{stationOf, sourceOf, dayOf, passOf, placeBy, stationBy, sourceBy, dayBy}
-use Rattle.session.proofs.Search.{below-each, both, first-fails}
-use Rattle.session.proofs.Numbers.{eqZ-true}
+use Rattle.sections.proofs.Search.{below-each, both, first-fails}
+use Rattle.sections.proofs.Numbers.{eqZ-true}
 use Rattle.delay.specs.Bounds.{InRecord, InStation, InSource, InPass}
 use Rattle.delay.specs.DayValues.{ut1rOf}
 

@@ -7,7 +7,7 @@ use lib.IntN.{ℤ, pos, _+ℤ_}
 use Rattle.whole.proofs.Linear.{and-true}
 use Rattle.earth.specs.declared.time.Epoch.{Epoch}
 use Rattle.earth.specs.Ranges.{InMs}
-use Rattle.session.specs.File.{refusalOf}
+use Rattle.sections.specs.File.{refusalOf}
 use Rattle.session.specs.Records.{dayBy}
 use Rattle.delay.specs.Bounds.{Pole}
 use Rattle.delay.specs.Sessions.{hasDay, covers, earthIn}

@@ -9,8 +9,8 @@ use lib.ListN.{length, drop, getD, set, length-append, length-drop}
 use lib.IntN.{ℤ, pos}
 use lib.Seq.{drop-cons, set-at}
 use Rattle.whole.proofs.Linear.{no-tf}
-use Rattle.session.specs.Each.{allBelow}
-use Rattle.session.proofs.Search.{below-each}
+use Rattle.sections.specs.Each.{allBelow}
+use Rattle.sections.proofs.Search.{below-each}
 use Rattle.delay.specs.Calls.{firstValues}
 
 pub values-count : (n : ℕ) (f : ℕ → ℤ) → length (firstValues n f) ≡ n

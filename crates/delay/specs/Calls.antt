@@ -11,8 +11,8 @@ use Rattle.earth.specs.declared.NumberAnswer.{NumberAnswer}
 use Rattle.earth.specs.Ranges.{dayOk, msOk}
 use Rattle.earth.specs.Calls.{epochOf}
 use Rattle.session.specs.declared.Pass.{Pass}
-use Rattle.session.specs.Each.{allBelow}
-use Rattle.session.specs.File.{refusalOf, countOf}
+use Rattle.sections.specs.Each.{allBelow}
+use Rattle.sections.specs.File.{refusalOf, countOf}
 use Rattle.session.specs.Records.{stationBy, sourceBy, placeBy, passOf}
 use Rattle.delay.specs.declared.EarthAnswer.{EarthAnswer}
 use Rattle.delay.specs.declared.values.Earth.{Earth}

@@ -9,7 +9,7 @@ use Rattle.earth.specs.Epoch.{laterOf}
 use Rattle.session.specs.declared.Station.{Station}
 use Rattle.session.specs.declared.Source.{Source}
 use Rattle.session.specs.declared.Pass.{Pass}
-use Rattle.session.specs.File.{countOf}
+use Rattle.sections.specs.File.{countOf}
 use Rattle.session.specs.Records.{dayBy, placeBy}
 use Rattle.delay.specs.declared.plane.Baseline.{Baseline}
 use Rattle.delay.specs.declared.plane.Direction.{Direction}

@@ -14,7 +14,7 @@ ghost use mathlib.Core.Bool.{true};
 ghost use Prim.Native.Nat.{_≤_};
 ghost use Rattle.whole.specs.Whole.{∣_∣};
 ghost use Rattle.earth.specs.Ranges.{InMs};
-ghost use Rattle.session.specs.File.{refusalOf};
+ghost use Rattle.sections.specs.File.{refusalOf};
 ghost use Rattle.delay.specs.Bounds.{Short, Turned};
 ghost use Rattle.delay.specs.Keeping.{TrueKept};
 ghost use Rattle.delay.specs.Sessions.{covers, delayAt};

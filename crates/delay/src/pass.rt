@@ -17,7 +17,7 @@ ghost use Prim.Native.Nat.{ℕ, _<_, _≤_};
 ghost use lib.ListN.{length, drop};
 ghost use Rattle.whole.specs.Whole.{∣_∣};
 ghost use Rattle.earth.specs.Ranges.{InMs};
-ghost use Rattle.session.specs.File.{refusalOf};
+ghost use Rattle.sections.specs.File.{refusalOf};
 ghost use Rattle.delay.specs.Bounds.{InPass, Short, Turned};
 ghost use Rattle.delay.specs.Calls.{allCovered, samplesOf, firstValues};
 ghost use Rattle.delay.specs.Keeping.{TrueSight, noSight};

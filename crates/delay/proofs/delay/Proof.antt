@@ -19,7 +19,7 @@ use Rattle.earth.specs.declared.NumberAnswer.{NumberAnswer}
 use Rattle.earth.specs.Calls.{epochOf}
 use Rattle.earth.specs.Ranges.{InDay, InMs, dayOk, msOk}
 use Rattle.earth.proofs.Floors.{in-abs}
-use Rattle.session.specs.File.{refusalOf}
+use Rattle.sections.specs.File.{refusalOf}
 use Rattle.session.specs.Records.{stationBy, sourceBy}
 use Rattle.delay.specs.declared.plane.Baseline.{Baseline}
 use Rattle.delay.specs.declared.plane.Direction.{Direction}

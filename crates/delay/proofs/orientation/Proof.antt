@@ -17,7 +17,7 @@ use Rattle.earth.specs.declared.time.Epoch.{Epoch}
 use Rattle.earth.specs.Calls.{epochOf}
 use Rattle.earth.specs.Ranges.{InDay, InMs, dayOk, msOk}
 use Rattle.earth.proofs.Floors.{in-abs}
-use Rattle.session.specs.File.{refusalOf}
+use Rattle.sections.specs.File.{refusalOf}
 use Rattle.delay.specs.declared.EarthAnswer.{EarthAnswer}
 use Rattle.delay.specs.declared.values.Earth.{Earth}
 use Rattle.delay.specs.Calls.{lowerOf, lowest, unless, noEarth, earthAnswer, orientationNumber, orientationOutcome}

@@ -15,7 +15,7 @@ use Rattle.whole.proofs.Linear.{back, ret}
 use Rattle.whole.proofs.Tests.{passed, failed}
 use Rattle.earth.specs.declared.NumberAnswer.{NumberAnswer}
 use Rattle.session.specs.declared.Pass.{Pass}
-use Rattle.session.specs.File.{refusalOf, countOf}
+use Rattle.sections.specs.File.{refusalOf, countOf}
 use Rattle.session.specs.Records.{passOf, stationBy, sourceBy}
 use Rattle.delay.specs.declared.plane.Baseline.{Baseline}
 use Rattle.delay.specs.declared.plane.Direction.{Direction}

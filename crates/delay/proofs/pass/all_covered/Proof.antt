@@ -17,7 +17,7 @@ use Rattle.whole.proofs.Tests.{passed, failed}
 use Rattle.earth.proofs.Floors.{in-abs}
 use Rattle.earth.specs.declared.time.Epoch.{Epoch}
 use Rattle.session.specs.declared.Pass.{Pass}
-use Rattle.session.specs.Each.{allBelow}
+use Rattle.sections.specs.Each.{allBelow}
 use Rattle.delay.specs.Bounds.{InPass}
 use Rattle.delay.specs.Calls.{samplesOf, allCovered}
 use Rattle.delay.specs.Sessions.{covers, sampleEpoch}

@@ -13,7 +13,7 @@ use mir.Val.{toZ, ofZ}
 use Rattle.whole.proofs.Linear.{ret}
 use Rattle.earth.specs.declared.time.Epoch.{Epoch}
 use Rattle.session.specs.declared.Pass.{Pass}
-use Rattle.session.proofs.Search.{below-each}
+use Rattle.sections.proofs.Search.{below-each}
 use Rattle.delay.specs.declared.plane.Baseline.{Baseline}
 use Rattle.delay.specs.declared.plane.Direction.{Direction}
 use Rattle.delay.specs.Bounds.{InPass}
