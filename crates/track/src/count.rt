@@ -19,7 +19,7 @@ fn most_from(n: usize, f: usize) -> usize
 pub fn count_segments(
     samples: &[i64],
     tolerance: u64,
-    counts: &mut [u32; 2048],
+    counts: &mut [u16; 2048],
     rates: &mut [u64; 2048],
 ) -> usize
     requires { ⌜ Small (now samples) × (length (now samples) ≤ 4096) ⌝ }
@@ -50,7 +50,7 @@ pub fn count_segments(
             &mut qb,
         );
         let c = run.count;
-        counts[m] = c as u32;
+        counts[m] = c as u16;
         rates[m] = run.least;
         f += c;
         m += 1;

@@ -22,7 +22,7 @@ fn put(room: &mut [i64], at: usize, a: i64, b: i64, c: i64, d: i64)
 pub fn write_segments(
     samples: &[i64],
     tolerance: u64,
-    counts: &[u32; 2048],
+    counts: &[u16; 2048],
     rates: &[u64; 2048],
     many: usize,
     room: &mut [i64],

@@ -24,12 +24,12 @@ use Rattle.track.proofs.Theorems.{trackOf-half}
 use Rattle.track.proofs.track.Statement.{statement}
 use Rattle.track.proofs.track.Tie as tie
 
-in-range-requires : tie.Need-in-range-requires
-in-range-requires c κs = search needs
+call-in-range-requires : tie.Need-call-in-range-requires
+call-in-range-requires c κs = search needs
 
 -- what the test says of the arguments
-says : (c : tie.After-in-range) → c .in-range .result ≡ inRange (c .before .args .samples .now) (c .before .args .tolerance)
-says c = c .in-range .ensures ∙ ap (λ (y : ℤ). inRange (c .before .args .samples .now) y) (back (c .before .fits .tolerance))
+says : (c : tie.After-call-in-range) → c .call-in-range .result ≡ inRange (c .before .args .samples .now) (c .before .args .tolerance)
+says c = c .call-in-range .ensures ∙ ap (λ (y : ℤ). inRange (c .before .args .samples .now) y) (back (c .before .fits .tolerance))
 
 returns : tie.Need-returns
 returns c = let x = c .before .before .args in
@@ -102,7 +102,7 @@ pub track-spec : {M : Type 1} → statement M
 track-spec =
     tie.close
     (tie.spec
-    in-range-requires
+    call-in-range-requires
     returns
     cast-t
     count-segments-requires
