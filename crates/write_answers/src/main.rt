@@ -63,7 +63,7 @@ fn read_numbers(list: &mut [i64]) {
 }
 
 fn write_lists(stations: &[i64], sources: &[i64], days: &[i64], passes: &[i64], room: &mut [u8]) {
-    let a = session::write(stations, sources, days, passes, room);
+    let a = writer::write(stations, sources, days, passes, room);
     print_two(a.refusal, a.value);
     print_room(room);
 }
