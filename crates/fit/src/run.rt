@@ -1,6 +1,6 @@
 // The longest run of samples from a given one that some line fits.
 ghost use mathlib.Core.Path.{_≡_};
-ghost use Prim.Native.Nat.{ℕ, _+_, _*_, _-_, _<_, _≤_};
+ghost use Prim.Native.Nat.{_+_, _*_, _-_, _<_, _≤_};
 ghost use lib.ListN.{length};
 ghost use Rattle.fit.specs.Greedy.{grow};
 ghost use Rattle.fit.specs.Line.{Small};

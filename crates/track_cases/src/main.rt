@@ -1,7 +1,6 @@
 // Every track case that document 01 lists, with room exactly enough, one segment short, and a ragged tail of one to three numbers that stays; and what the
 // tracks predict. A line is the refusal, the value, and the room after the call, which was lent full of 7s.
 ghost use Prim.Native.Nat.{_≤_};
-ghost use lib.ListN.{length};
 use whole::sign::size;
 
 fn print(n: i64) {
