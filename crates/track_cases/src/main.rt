@@ -74,6 +74,10 @@ fn tracks() {
     one(&[0, 0, 1], 1);
     one(&[0, 10, 0], 5);
     two(&[0, 10, 0], 4);
+}
+
+// "1,025 zeros: segments of 1,024 and 1. No samples: 2."
+fn long_and_empty() {
     let zeros: [i64; 1025] = [0; 1025];
     two(&zeros, 0);
     one(&zeros[..0], 0);
@@ -112,6 +116,7 @@ fn predictions() {
 
 fn main() {
     tracks();
+    long_and_empty();
     ranges();
     predictions();
 }
