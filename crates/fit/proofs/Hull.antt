@@ -1,16 +1,15 @@
 -- A chain of samples, as it loses its first, loses its last and gains one behind: at each rate one of it stays as good as any sample of the run.
 use mathlib.Core.Path.{_≡_, refl, sym, ap, subst, _∙_}
-use mathlib.Core.Bool.{Bool, true, false, not, cond}
-use mathlib.Core.List.{List, [], _∷_}
-use Prim.Native.Nat.{ℕ, zero, suc, _+_, _*_, _/_, _-_, _≤_, _<_, min, max}
-use native.Mathlib.Nat.{mul-add, add-mul, mul-one, mul-zero}
+use mathlib.Core.List.{List}
+use Prim.Native.Nat.{ℕ, zero, suc, _+_, _*_, _/_, _-_, _≤_, _<_}
+use native.Mathlib.Nat.{mul-add, add-mul, mul-one}
 use mathlib.Core.Logic.{_↔_, _⊎_, inl, inr, ⊎-elim}
 use native.Mathlib.Omega.{arith}
 use lib.ListN.{getD, set, length}
 use lib.Seq.{getD-set-same, getD-set-other}
 use Rattle.fit.specs.Rates.{low, rowLo}
 use Rattle.fit.specs.Chains.{Leaves, Under, Order, Covers, Nearly, Chain}
-use Rattle.fit.proofs.Pairs.{low-le, Above, Below, rowLo-le}
+use Rattle.fit.proofs.Pairs.{low-le, Above, rowLo-le}
 use Rattle.fit.proofs.Tests.{lt-or, at-or}
 
 -- a difference that is one less stands for one that is rounded up

@@ -1,15 +1,11 @@
 -- The code's walks along a chain: `ask` from its head, `keep` from its tail, and what `add` leaves.
-use mathlib.Core.Path.{_≡_, refl, sym, ap, subst, _∙_}
-use mathlib.Core.Bool.{Bool, true, false, not, cond}
-use mathlib.Core.List.{List, [], _∷_}
-use Prim.Native.Nat.{ℕ, zero, suc, _+_, _*_, _/_, _-_, _≤_, _<_, min, max}
-use native.Mathlib.Nat.{mul-add, add-mul, mul-one, mul-zero}
-use mathlib.Core.Logic.{_↔_, _⊎_, inl, inr, ⊎-elim}
+use mathlib.Core.Path.{_≡_, refl, _∙_}
+use mathlib.Core.List.{List}
+use Prim.Native.Nat.{ℕ, _+_, _*_, _-_, _≤_, _<_, max}
 use native.Mathlib.Omega.{arith}
 use lib.ListN.{getD, set, length}
-use lib.Seq.{getD-set-same, getD-set-other}
 use Rattle.fit.specs.Rates.{low, rowLo}
-use Rattle.fit.specs.Chains.{Order, Covers, Nearly, Chain, leftAt, Asked, Kept, Keeping, Added}
+use Rattle.fit.specs.Chains.{Order, Covers, Chain, leftAt, Asked, Kept, Keeping, Added}
 use Rattle.fit.proofs.Pairs.{rowLo-acc, rowLo-at}
 use Rattle.fit.proofs.Hull.{low-is, covers-up, covers-skip, order-skip, order-part, best, nearly, nearly-drop, push}
 

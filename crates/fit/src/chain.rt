@@ -1,7 +1,7 @@
 // The chain of the samples that can still set the least rate: x holds their places in the run, v their tilted values, q the rate from which each is better
 // than the one before it. See specs/Chains.antt.
 ghost use mathlib.Core.Path.{_≡_};
-ghost use Prim.Native.Nat.{ℕ, _+_, _*_, _-_, _/_, _<_, _≤_};
+ghost use Prim.Native.Nat.{_+_, _-_, _/_, _<_, _≤_};
 ghost use lib.ListN.{getD};
 ghost use Rattle.fit.specs.Rates.{tilt};
 ghost use Rattle.fit.specs.Chains.{Safe, Full, leftAt, Asked, Keeping, Added};

@@ -1,7 +1,7 @@
 // The first step of a track: its runs, and so the number of its segments, worked out over lent scratch space.
 ghost use mathlib.Core.Path.{_≡_};
-ghost use Prim.Native.Nat.{ℕ, _-_, _<_, _≤_, min};
-ghost use lib.ListN.{length, set};
+ghost use Prim.Native.Nat.{_-_, _<_, _≤_, min};
+ghost use lib.ListN.{length};
 ghost use Rattle.fit.specs.Line.{Small};
 ghost use Rattle.track.specs.Made.{trackOf, Stored};
 use fit::run::longest_run;

@@ -1,6 +1,5 @@
 // Refusal 2: what a track call takes.
 ghost use mathlib.Core.Path.{_≡_};
-ghost use Prim.Native.Nat.{ℕ};
 ghost use lib.ListN.{length};
 ghost use Rattle.track.specs.Answer.{each, smallAt, inRange};
 use whole::sign::in_range;

@@ -1,7 +1,7 @@
 // The second step of a track: its segments written to the lent room.
 ghost use mathlib.Core.Path.{_≡_};
-ghost use mathlib.Core.List.{List, _++_};
-ghost use Prim.Native.Nat.{ℕ, _+_, _*_, _<_, _≤_};
+ghost use mathlib.Core.List.{_++_};
+ghost use Prim.Native.Nat.{_+_, _*_, _<_, _≤_};
 ghost use lib.ListN.{length, drop, set};
 ghost use Rattle.fit.specs.Line.{Small};
 ghost use Rattle.track.specs.Segments.{flat};
