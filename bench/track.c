@@ -126,8 +126,8 @@ static uint64_t run(enum side side, long calls, int kind)
 	uint64_t sum = 0;
 	while (calls > 0) {
 		size_t n = calls < MOST ? calls : MOST;
-		kind == 2 ? noise(n) : arc(n, kind == 0 ? 10000000 : 10000000000);
-		struct number a = callee(samples, n, kind == 0 ? 1000000 : kind == 1 ? 1000 : 40000, room, 4 * MOST);
+		kind == 2 ? noise(n) : arc(n, kind == 0 ? 10000000 : 100000000);
+		struct number a = callee(samples, n, kind == 0 ? 1000000 : kind == 1 ? 1000 : 20000, room, 4 * MOST);
 		sum = sum * 31 + a.refusal * 7 + a.value;
 		for (size_t i = 0; i < 4 * MOST; i++)
 			sum = sum * 31 + room[i];

@@ -93,6 +93,7 @@ cases = [small, full, zeros, b"", small[:100], small[:103], small + bytes(65537 
          put(small, 0, 5), put(small, 4, 7), put(small, 8, 168), put(small, 3, 65), put(small, 3, -1), put(small, 12, 2**63 - 1),
          put(small, 14, 6400000001), put(small, 14, -6400000001), put(small, 37, -1), put(small, 19, -(2**63)), put(small, 13, 0),
          pair, put(pair, 14, 2**63 - 1), gap, falling]
+sevens = bytes([7]) * 303
 folder = "crates/session_cases/"
 with open(folder + "stdin", "wb") as f:
     f.write(b"".join(struct.pack("<q", len(c)) + c for c in cases))
@@ -100,5 +101,5 @@ with open(folder + "stdout", "w") as f:
     for c in cases:
         for row in lines(c):
             f.write("".join(f"{z} " for z in row) + "\n")
-    for answer, room in (([0, 304], small), ([7, 0], bytes([7]) * 303)):
+    for answer, room in (([0, 304], small), ([7, 0], sevens), ([1, 0], sevens), ([2, 0], sevens), ([3, 0], sevens), ([4, 0], sevens)):
         f.write("".join(f"{z} " for z in answer + lines(room)[0]) + "\n")

@@ -90,3 +90,22 @@ pass-names-first false false = refl
 pub days-first : (r : Bool) → ofPass 0 true true false r ≡ 6
 days-first true = refl
 days-first false = refl
+
+-- no number is given only where each test passed
+pub lower-zero : (a b : ℕ) → lowerOf a b ≡ 0 → (a ≡ 0) × (b ≡ 0)
+lower-zero zero b e = (refl, e)
+lower-zero (suc a) zero e = absurd (omega arith)
+lower-zero (suc a) (suc b) e = absurd (omega arith)
+
+pub unless-zero : (t : Bool) (n : ℕ) → unless t (suc n) ≡ 0 → t ≡ true
+unless-zero true n e = refl
+unless-zero false n e = absurd (omega arith)
+
+-- where 6 is given, the days are what failed
+pub six-fails : (f : ℕ) (i t c r : Bool) → f ≤ 4 → ofPass f i t c r ≡ 6 → c ≡ false
+six-fails zero true true true true h e = absurd (omega arith)
+six-fails zero true true true false h e = absurd (omega arith)
+six-fails zero true true false r h e = refl
+six-fails zero true false c r h e = absurd (omega (arith, pass-names-first c r))
+six-fails zero false t c r h e = absurd (omega (arith, index-first t c r))
+six-fails (suc f) i t c r h e = absurd (omega (arith, file-first (suc f) i t c r h (λ z. omega arith)))

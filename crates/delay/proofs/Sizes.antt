@@ -11,9 +11,14 @@ use Rattle.whole.proofs.Machine.{M, lit, var, _⊞_, _⊟_, _⊠_, val, bounded
 use Rattle.whole.proofs.Rounding.{R-size}
 use Rattle.sine.specs.Sine.{sineOf, cosineOf}
 use Rattle.sine.proofs.Laws.{sine-size, cosine-size}
+use Rattle.session.specs.declared.Station.{Station}
+use Rattle.session.specs.declared.Source.{Source}
 use Rattle.delay.specs.declared.plane.Baseline.{Baseline}
-use Rattle.delay.specs.Bounds.{Short, Shifted}
-use Rattle.delay.specs.PlaneWave.{equatorial, alongSource, waveOf}
+use Rattle.delay.specs.declared.plane.Direction.{Direction}
+use Rattle.delay.specs.declared.values.Earth.{Earth}
+use Rattle.delay.specs.Bounds.{InStation, Short, Shifted, Turned, Pole}
+use Rattle.delay.specs.PlaneWave.{shiftOf, shiftedOf, hourAngle, tickOf, equatorial, alongSource, waveOf, directionOf, delayOf}
+use Rattle.delay.specs.Sessions.{baselineOf, angleFor, delayBetween}
 
 pub equatorial-size : (b : Baseline) (h : ℕ) → Shifted b → ∣ equatorial b h ∣ ≤ 25600124114
 unfolding equatorial
@@ -34,3 +39,41 @@ wave-size b h cos sin k c s =
     let g = alongSource b h cos sin in
     let m = var (negℤ g) 38400248228 (omega (arith, along-size b h cos sin k c s, P-neg g, N-neg g)) ⊠ lit (pos 1000000000) in
     R-size (val m) 299792458 130000000000 (omega arith) (le-trans (bounded m) (lit≤ tt))
+
+-- the pole shift is small, and so the baseline stays within its bounds
+shift-size : (c p : ℤ) → ∣ c ∣ ≤ 12800000000 → ∣ p ∣ ≤ 1000000 → ∣ shiftOf c p ∣ ≤ 62057
+unfolding shiftOf
+shift-size c p h k =
+    let m = var c 12800000000 h ⊠ var p 1000000 k in
+    let n = var (R (val m) 1000000) 12800000000 (R-size (val m) 1000000 12800000000 (omega arith) (bounded m)) ⊠ lit (pos 4848137) in
+    R-size (val n) 1000000000000 62057 (omega arith) (le-trans (bounded n) (lit≤ tt))
+
+pub shifted-size : (b : Baseline) (x y : ℤ) → Short b → Pole x y → Shifted (shiftedOf b x y)
+unfolding shiftedOf
+shifted-size b x y h p =
+    let zx = shift-size (b .z) x (h .z-size) (p .x-size) in
+    let zy = shift-size (b .z) y (h .z-size) (p .y-size) in
+    let xx = shift-size (b .x) x (h .x-size) (p .x-size) in
+    let yy = shift-size (b .y) y (h .y-size) (p .y-size) in
+    record {
+      x-size = bounded (var (b .x) 12800000000 (h .x-size) ⊟ var (shiftOf (b .z) x) 62057 zx);
+      y-size = bounded (var (b .y) 12800000000 (h .y-size) ⊞ var (shiftOf (b .z) y) 62057 zy);
+      z-size = bounded (var (b .z) 12800000000 (h .z-size) ⊞ var (shiftOf (b .x) x) 62057 xx ⊟ var (shiftOf (b .y) y) 62057 yy);
+    }
+
+pub delay-size : (b : Baseline) (d : Direction) (x y : ℤ) (a : ℕ) → Short b → Turned d → Pole x y → ∣ delayOf b d x y a ∣ ≤ 130000000000
+unfolding delayOf
+delay-size b d x y a h t p = wave-size (shiftedOf b x y) (hourAngle a (d .«right_ascension»)) (d .cos) (d .sin) (shifted-size b x y h p) (t .cos-size) (t .sin-size)
+
+-- of two station records, any source record, and a pole within its range
+pub between-size : (p q : Station) (r : Source) (e : Earth) → InStation p → InStation q → Pole (e .x) (e .y) → ∣ delayBetween p q r e ∣ ≤ 130000000000
+unfolding delayBetween baselineOf directionOf
+between-size p q r e h k l =
+    delay-size (baselineOf p q) (directionOf (r .«right_ascension») (r .declination)) (e .x) (e .y) (angleFor r e)
+    (record {
+      x-size = bounded (var (q .x) 6400000000 (k .x-size) ⊟ var (p .x) 6400000000 (h .x-size));
+      y-size = bounded (var (q .y) 6400000000 (k .y-size) ⊟ var (p .y) 6400000000 (h .y-size));
+      z-size = bounded (var (q .z) 6400000000 (k .z-size) ⊟ var (p .z) 6400000000 (h .z-size));
+    })
+    (record { cos-size = cosine-size (tickOf (r .declination)); sin-size = sine-size (tickOf (r .declination)) })
+    l

@@ -5,9 +5,11 @@ use mathlib.Core.List.{List, [], _∷_, _++_, append-assoc}
 use Prim.Native.Nat.{ℕ, zero, suc, _+_, _≤_, _<_}
 use native.Mathlib.Numerals.{add-one}
 use native.Mathlib.Omega.{arith}
-use lib.ListN.{length, drop, getD, set, length-append, length-drop}
+use lib.ListN.{length, drop, getD, set, length-append, length-drop, List·getD-append}
 use lib.IntN.{ℤ, pos}
-use lib.Seq.{drop-cons, set-at}
+use lib.Seq.{drop-cons, set-at, getD-append-add}
+use lib.Dec.{ltb}
+use borrow.Author.Tests.{ltb-true, ltb-false}
 use Rattle.whole.proofs.Linear.{no-tf}
 use Rattle.sections.specs.Each.{allBelow}
 use Rattle.sections.proofs.Search.{below-each}
@@ -28,6 +30,24 @@ value-next i f room h =
     ap (λ (t : List ℤ). set (firstValues i f ++ t) i (f i)) (drop-cons room i (pos 0) h)
     ∙ set-at (firstValues i f) (getD room i (pos 0)) (drop (suc i) room) (f i) i (values-count i f)
     ∙ sym (append-assoc (firstValues i f) (f i ∷ []) (drop (suc i) room))
+
+-- value j of them
+last-value : (n : ℕ) (f : ℕ → ℤ) (j : ℕ) → ((i : ℕ) → i < n → getD (firstValues n f) i (pos 0) ≡ f i) → j < suc n → (t : Bool) → ltb j n ≡ t → getD (firstValues n f ++ (f n ∷ [])) j (pos 0) ≡ f j
+last-value n f j k h true e =
+    let l = ltb-true j n e in
+    List·getD-append (firstValues n f) (f n ∷ []) (pos 0) j (rw (values-count n f) l) ∙ k j l
+last-value n f j k h false e =
+    let g = ltb-false j n e in
+    let q : j ≡ length (firstValues n f) + 0 = omega (arith, values-count n f) in
+    let m : n ≡ j = omega arith in
+    ap (λ (x : ℕ). getD (firstValues n f ++ (f n ∷ [])) x (pos 0)) q ∙ getD-append-add (firstValues n f) (f n ∷ []) 0 (pos 0) ∙ ap f m
+
+value-at : (n : ℕ) (f : ℕ → ℤ) (j : ℕ) → j < n → getD (firstValues n f) j (pos 0) ≡ f j
+value-at zero f j h = absurd (omega arith)
+value-at (suc n) f j h = last-value n f j (value-at n f) h (ltb j n) refl
+
+pub sample-at : (n : ℕ) (f : ℕ → ℤ) (rest : List ℤ) (j : ℕ) → j < n → getD (firstValues n f ++ rest) j (pos 0) ≡ f j
+sample-at n f rest j h = List·getD-append (firstValues n f) rest (pos 0) j (rw (values-count n f) h) ∙ value-at n f j h
 
 -- a test that fails at one number below n does not hold of all
 fails-by : (n i : ℕ) (p : ℕ → Bool) → i < n → p i ≡ false → (t : Bool) → allBelow n p ≡ t → allBelow n p ≡ false

@@ -1,13 +1,13 @@
 -- The greedy cover of the samples `s .. n - 1` by runs that fit is the shortest, for any test `fit start count` that holds of one sample and
 -- of each part of a run of which it holds.
 use mathlib.Core.Path.{_≡_, refl, sym, ap, subst, _∙_}
-use mathlib.Core.Bool.{Bool, true, false, not, cond}
+use mathlib.Core.Bool.{Bool, true, false, not}
 use mathlib.Core.List.{List, [], _∷_}
 use mathlib.Core.Logic.{⊎-elim}
 use Prim.Native.Nat.{ℕ, zero, suc, _+_, _*_, _-_, _≤_, _<_, min}
 use native.Mathlib.Omega.{arith}
 use borrow.Author.Tests.{eq-eqb, ne-eqb}
-use lib.Dec.{T, T-not, eqb, ltb, ltb→lt, nltb→le, lt→ltb}
+use lib.Dec.{T, T-not, eqb, ltb, ltb→lt, nltb→le}
 use lib.ListN.{length}
 use Rattle.fit.specs.Greedy.{grow, longest, counts, Cover, done, step}
 use Rattle.fit.proofs.Tests.{by-test, lt-or}

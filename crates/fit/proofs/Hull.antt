@@ -1,17 +1,20 @@
 -- A chain of samples, as it loses its first, loses its last and gains one behind: at each rate one of it stays as good as any sample of the run.
 use mathlib.Core.Path.{_≡_, refl, sym, ap, subst, _∙_}
-use mathlib.Core.Bool.{Bool, true, false, not, cond}
-use mathlib.Core.List.{List, [], _∷_}
-use Prim.Native.Nat.{ℕ, zero, suc, _+_, _*_, _/_, _-_, _≤_, _<_, min, max}
-use native.Mathlib.Nat.{mul-add, add-mul, mul-one, mul-zero}
+use mathlib.Core.List.{List}
+use Prim.Native.Nat.{ℕ, zero, suc, _+_, _*_, _/_, _-_, _≤_, _<_}
+use native.Mathlib.Nat.{mul-add, add-mul, mul-one}
 use mathlib.Core.Logic.{_↔_, _⊎_, inl, inr, ⊎-elim}
 use native.Mathlib.Omega.{arith}
 use lib.ListN.{getD, set, length}
 use lib.Seq.{getD-set-same, getD-set-other}
 use Rattle.fit.specs.Rates.{low, rowLo}
 use Rattle.fit.specs.Chains.{Leaves, Under, Order, Covers, Nearly, Chain}
-use Rattle.fit.proofs.Pairs.{low-le, Above, Below, rowLo-le}
+use Rattle.fit.proofs.Pairs.{low-le, Above, rowLo-le}
 use Rattle.fit.proofs.Tests.{lt-or, at-or}
+
+-- a difference that is one less stands for one that is rounded up
+one-less : (a b v t z G p q : ℕ) → a + q ≡ b + (G + z + p) → q + v ≤ G → 1 ≤ z → t ≡ a - v - 1 → t - b ≡ G + p - (q + v) + z - 1
+one-less a b v t z G p q s o h e = omega arith
 
 module _ (g : ℕ → ℕ) (N f : ℕ) where
   split : (p k j z : ℕ) → j ≡ k + z → p * j ≡ p * k + p * z
@@ -31,13 +34,15 @@ module _ (g : ℕ → ℕ) (N f : ℕ) where
       e = omega arith
 
   -- as the code has it
-  pub low-is : (w k j r a b v d : ℕ) → k < j → r ≡ (a - (b + v) - 1) / d → d ≡ j - k → a ≡ (N + 1) * j + g (f + j) → b ≡ (N + 1) * k + g (f + k) → v ≡ 2 * w
+  pub low-is : (w k j r a b v d t : ℕ) → k < j → r ≡ (t - b) / d → t ≡ a - v - 1 → d ≡ j - k → a ≡ (N + 1) * j + g (f + j) → b ≡ (N + 1) * k + g (f + k) → v ≡ 2 * w
       → g (f + k) + 2 * w ≤ N → r ≡ low g w N (f + k) (f + j)
   unfolding low
-  low-is w k j r a b v d h hr hd ha hb hv hg =
-      let e : d ≡ f + j - (f + k) = omega arith in
-      let n : a - (b + v) - 1 ≡ N * (f + j - (f + k)) + g (f + j) - (g (f + k) + 2 * w) + (f + j - (f + k)) - 1 =
-      omega (arith, split N k j (f + j - (f + k)) (omega arith), add-mul N 1 j, add-mul N 1 k, native.Mathlib.Nat.mul-le-mul-left {m = 1} {n = f + j - (f + k)} N (omega arith), mul-one N) in
+  low-is w k j r a b v d t h hr ht hd ha hb hv hg =
+      let z : ℕ = f + j - (f + k) in
+      let e : d ≡ z = omega arith in
+      let s : a + g (f + k) ≡ b + (N * z + z + g (f + j)) = omega (arith, split N k j z (omega arith), add-mul N 1 j, add-mul N 1 k) in
+      let o : g (f + k) + 2 * w ≤ N * z = omega (arith, native.Mathlib.Nat.mul-le-mul-left {m = 1} {n = z} N (omega arith), mul-one N) in
+      let n : t - b ≡ N * z + g (f + j) - (g (f + k) + 2 * w) + z - 1 = one-less a b (2 * w) t z (N * z) (g (f + j)) (g (f + k)) s o (omega arith) (omega arith) in
       cc
 
   module _ (x v q : List ℕ) where

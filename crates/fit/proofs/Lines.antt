@@ -1,7 +1,6 @@
 -- The rates and offsets of specs/Rates.antt are document 01's: a line fits a run exactly if the test says so, and the line that the code works out fits, with
 -- the least rate, and the least offset for it.
 use mathlib.Core.Path.{_≡_, refl, sym, ap, ap₂, subst, _∙_}
-use mathlib.Core.Bool.{Bool, true, false, not, cond}
 use mathlib.Core.List.{List}
 use Prim.Native.Nat.{ℕ, zero, suc, _+_, _*_, _-_, _≤_, _<_}
 use native.Mathlib.Nat.{mul-zero, mul-one}
@@ -11,7 +10,7 @@ use lib.IntN.{ℤ, pos, negsuc, subℕ, _+ℤ_, _-ℤ_, _*ℤ_, *ℤ-comm, +ℤ-
 use lib.Signed.{_≤ℤ_}
 use Rattle.whole.specs.Whole.{∣_∣}
 use Rattle.fit.specs.Line.{sample, Fits, Small}
-use Rattle.fit.specs.Rates.{bias, scaled, tilt, lift, lo, hi, fit, off, least, fitOf, tilted, lifted, rateOf, offsetOf}
+use Rattle.fit.specs.Rates.{bias, scaled, tilt, lift, hi, fit, least, fitOf, tilted, lifted, rateOf, offsetOf}
 use Rattle.fit.proofs.Tests.{by-test}
 use Rattle.fit.proofs.Pairs.{FitsN, fit-one, fit-part, fit-complete, fit-two, least-rate, rate-fits, off-least, hi-top, lo-one, hi-one}
 use Rattle.fit.proofs.Diff.{plus, minus, sub-of, sub-eq, sub-pos, sub-neg, sub-add, sub-sub, sub-mul, sub-abs, sub-le, mul-pos-add}

@@ -1,13 +1,9 @@
 -- The greatest rate is the least rate of the samples turned over.
-use mathlib.Core.Path.{_≡_, refl, sym, ap, subst, _∙_}
-use mathlib.Core.Bool.{Bool, true, false, not, cond}
-use mathlib.Core.List.{List, [], _∷_}
-use Prim.Native.Nat.{ℕ, zero, suc, _+_, _*_, _/_, _-_, _≤_, _<_, min, max}
-use native.Mathlib.Nat.{mul-add, add-mul, mul-one, mul-zero}
-use mathlib.Core.Logic.{_↔_, _⊎_, inl, inr, ⊎-elim}
+use mathlib.Core.Path.{_≡_, sym, ap, _∙_}
+use Prim.Native.Nat.{ℕ, zero, suc, _+_, _*_, _-_, _≤_, _<_}
+use native.Mathlib.Nat.{add-mul, mul-one}
+use mathlib.Core.Logic.{_↔_, _⊎_, ⊎-elim}
 use native.Mathlib.Omega.{arith}
-use lib.ListN.{getD, set, length}
-use lib.Seq.{getD-set-same, getD-set-other}
 use Rattle.fit.specs.Rates.{low, upp, rowLo, rowHi, lo, hi, mirror}
 use Rattle.fit.proofs.Pairs.{low-le, le-upp, lo-le, Above, Below}
 use Rattle.fit.proofs.Tests.{lt-or}

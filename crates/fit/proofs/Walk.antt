@@ -1,15 +1,11 @@
 -- The code's walks along a chain: `ask` from its head, `keep` from its tail, and what `add` leaves.
-use mathlib.Core.Path.{_≡_, refl, sym, ap, subst, _∙_}
-use mathlib.Core.Bool.{Bool, true, false, not, cond}
-use mathlib.Core.List.{List, [], _∷_}
-use Prim.Native.Nat.{ℕ, zero, suc, _+_, _*_, _/_, _-_, _≤_, _<_, min, max}
-use native.Mathlib.Nat.{mul-add, add-mul, mul-one, mul-zero}
-use mathlib.Core.Logic.{_↔_, _⊎_, inl, inr, ⊎-elim}
+use mathlib.Core.Path.{_≡_, refl, _∙_}
+use mathlib.Core.List.{List}
+use Prim.Native.Nat.{ℕ, _+_, _*_, _-_, _≤_, _<_, max}
 use native.Mathlib.Omega.{arith}
 use lib.ListN.{getD, set, length}
-use lib.Seq.{getD-set-same, getD-set-other}
 use Rattle.fit.specs.Rates.{low, rowLo}
-use Rattle.fit.specs.Chains.{Order, Covers, Nearly, Chain, leftAt, Asked, Kept, Keeping, Added}
+use Rattle.fit.specs.Chains.{Order, Covers, Chain, leftAt, Asked, Kept, Keeping, Added}
 use Rattle.fit.proofs.Pairs.{rowLo-acc, rowLo-at}
 use Rattle.fit.proofs.Hull.{low-is, covers-up, covers-skip, order-skip, order-part, best, nearly, nearly-drop, push}
 
@@ -24,10 +20,10 @@ abbrev pub Asking : ℕ → List ℕ → List ℕ → List ℕ → ℕ → ℕ �
 Asking N x v q s z m a b l i p = (g : ℕ → ℕ) (f w : ℕ) → ((i : ℕ) → g i + 2 * w ≤ N) → b ≡ 2 * w → a ≡ (N + 1) * m + g (f + m) → Chain g N f x v q s z m l → Query g N f w x v q i z m l p
 
 module _ (N : ℕ) (x v q : List ℕ) (s z m a b l : ℕ) where
-  left-low : (g : ℕ → ℕ) (f w i : ℕ) → ((i : ℕ) → g i + 2 * w ≤ N) → b ≡ 2 * w → a ≡ (N + 1) * m + g (f + m) → s ≤ i → i ≤ z → Order g N f x v q s z m → leftAt x v i m a b ≡ low g w N (f + getD x i 0) (f + m)
-  left-low g f w i bd e h j k o = low-is g N f w (getD x i 0) m (leftAt x v i m a b) a (getD v i 0) b (m - getD x i 0) (o .before i j k) refl refl h (o .value i j k) e (bd (f + getD x i 0))
+  left-low : (g : ℕ → ℕ) (f w i t : ℕ) → t ≡ a - b - 1 → ((i : ℕ) → g i + 2 * w ≤ N) → b ≡ 2 * w → a ≡ (N + 1) * m + g (f + m) → s ≤ i → i ≤ z → Order g N f x v q s z m → leftAt x v i m t ≡ low g w N (f + getD x i 0) (f + m)
+  left-low g f w i t ht bd e h j k o = low-is g N f w (getD x i 0) m (leftAt x v i m t) a (getD v i 0) b (m - getD x i 0) t (o .before i j k) refl ht refl h (o .value i j k) e (bd (f + getD x i 0))
 
-  pub ask-start : (r : ℕ) → r ≡ max l (leftAt x v s m a b) → Asking N x v q s z m a b l s r
+  pub ask-start : (r : ℕ) → r ≡ max l (leftAt x v s m (a - b - 1)) → Asking N x v q s z m a b l s r
   ask-start r e g f w bd hb ha c = record {
     chain = record { order = c .order; cover = covers-up g N f x v q s z m l r (omega arith) (c .cover) };
     from = omega arith;
@@ -35,11 +31,11 @@ module _ (N : ℕ) (x v q : List ℕ) (s z m a b l : ℕ) where
     most = omega (arith, lw, rowLo-acc g w N f (f + m) m l, rowLo-at g w N f (f + m) m l (getD x s 0) (c .order .before s (omega arith) (c .order .some)));
   }
     where
-      lw : leftAt x v s m a b ≡ low g w N (f + getD x s 0) (f + m)
-      lw = left-low g f w s bd hb ha (omega arith) (c .order .some) (c .order)
+      lw : leftAt x v s m (a - b - 1) ≡ low g w N (f + getD x s 0) (f + m)
+      lw = left-low g f w s (a - b - 1) refl bd hb ha (omega arith) (c .order .some) (c .order)
 
 module _ (N : ℕ) (x v q : List ℕ) (s z m a b l i p : ℕ) (k : Asking N x v q s z m a b l i p) where
-  pub ask-step : (j r : ℕ) → j ≡ i + 1 → i < z → getD q j 0 ≤ p → r ≡ max p (leftAt x v j m a b) → Asking N x v q s z m a b l j r
+  pub ask-step : (j r : ℕ) → j ≡ i + 1 → i < z → getD q j 0 ≤ p → r ≡ max p (leftAt x v j m (a - b - 1)) → Asking N x v q s z m a b l j r
   ask-step j r d h t e g f w bd hb ha c = record {
     chain = record { order = o; cover = covers-up g N f x v q j z m p r (omega arith) cov };
     from = omega (arith, y .from);
@@ -56,23 +52,23 @@ module _ (N : ℕ) (x v q : List ℕ) (s z m a b l i p : ℕ) (k : Asking N x v 
       cov : Covers g N f x j z m p
       cov = rw d (covers-skip g N f x v q i z m p h (rw d at t) (y .chain .order) (y .chain .cover))
 
-      lw : leftAt x v j m a b ≡ low g w N (f + getD x j 0) (f + m)
-      lw = left-low N x v q j z m a b l g f w j bd hb ha (omega arith) (omega arith) o
+      lw : leftAt x v j m (a - b - 1) ≡ low g w N (f + getD x j 0) (f + m)
+      lw = left-low N x v q j z m a b l g f w j (a - b - 1) refl bd hb ha (omega arith) (omega arith) o
 
   pub ask-end : (i < z → p < getD q (i + 1) 0) → Asked N x v q s z m a b l i p
   ask-end t g f w bd hb ha c = let y = k g f w bd hb ha c in
       (omega (arith, y .most, best g N f x v q i z m p w (y .chain .order) (y .chain .cover) t (y .head) l (y .from)), y .chain)
 
 module _ (N : ℕ) (x v q : List ℕ) (s z m a : ℕ) where
-  pub keep-start : (r : ℕ) → r ≡ leftAt x v z m a 0 → Keeping N x v q s z m a z r
+  pub keep-start : (r : ℕ) → r ≡ leftAt x v z m (a - 1) → Keeping N x v q s z m a z r
   keep-start r e g f l bd ha c = record {
-    rate = e ∙ left-low N x v q s z m a 0 l g f 0 z (λ i. omega (arith, bd i)) refl ha (c .order .some) (omega arith) (c .order);
+    rate = e ∙ left-low N x v q s z m a 0 l g f 0 z (a - 1) (omega arith) (λ i. omega (arith, bd i)) refl ha (c .order .some) (omega arith) (c .order);
     nearly = nearly g N f x v q s z m l (c .cover);
   }
 
-  pub keep-step : (i p j r : ℕ) → Keeping N x v q s z m a i p → i ≡ j + 1 → s ≤ j → i ≤ z → p ≤ getD q i 0 → r ≡ leftAt x v j m a 0 → Keeping N x v q s z m a j r
+  pub keep-step : (i p j r : ℕ) → Keeping N x v q s z m a i p → i ≡ j + 1 → s ≤ j → i ≤ z → p ≤ getD q i 0 → r ≡ leftAt x v j m (a - 1) → Keeping N x v q s z m a j r
   keep-step i p j r k d h u t e g f l bd ha c = record {
-    rate = e ∙ left-low N x v q s z m a 0 l g f 0 j (λ i. omega (arith, bd i)) refl ha h (omega arith) (c .order);
+    rate = e ∙ left-low N x v q s z m a 0 l g f 0 j (a - 1) (omega arith) (λ i. omega (arith, bd i)) refl ha h (omega arith) (c .order);
     nearly = nearly-drop g N f x v q s i j m l d h (omega (arith, y .rate)) (order-part g N f x v q s z i m (omega arith) u (c .order)) (y .nearly);
   }
     where

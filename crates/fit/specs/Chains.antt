@@ -49,9 +49,9 @@ pub record Full (x v q : List ℕ) : Type 0 where
   pub full-v : length v ≡ 1024
   pub full-q : length q ≡ 1024
 
--- the least rate that the sample m, of tilted value a, leaves with the one at i on the chain
-abbrev pub leftAt : List ℕ → List ℕ → ℕ → ℕ → ℕ → ℕ → ℕ
-leftAt x v i m a b = (a - (getD v i 0 + b) - 1) / (m - getD x i 0)
+-- the least rate that the sample m leaves with the one at i on the chain, where t is one below m's tilted value less twice the tolerance
+abbrev pub leftAt : List ℕ → List ℕ → ℕ → ℕ → ℕ → ℕ
+leftAt x v i m t = (t - getD v i 0) / (m - getD x i 0)
 
 -- what the search for the rate answers, of each run and tolerance that the chain is of
 abbrev pub Asked : ℕ → List ℕ → List ℕ → List ℕ → ℕ → ℕ → ℕ → ℕ → ℕ → ℕ → ℕ → ℕ → Type 0

@@ -1,28 +1,20 @@
 // The chain of the samples that can still set the least rate: x holds their places in the run, v their tilted values, q the rate from which each is better
 // than the one before it. See specs/Chains.antt.
 ghost use mathlib.Core.Path.{_≡_};
-ghost use Prim.Native.Nat.{ℕ, _+_, _*_, _-_, _/_, _<_, _≤_};
+ghost use Prim.Native.Nat.{_+_, _-_, _/_, _<_, _≤_};
 ghost use lib.ListN.{getD};
 ghost use Rattle.fit.specs.Rates.{tilt};
 ghost use Rattle.fit.specs.Chains.{Safe, Full, leftAt, Asked, Keeping, Added};
 use super::samples::larger;
 
-// The least rate that two samples of tilted values a and b leave, b the earlier by d, with twice the tolerance v.
-fn rate_low(a: u64, b: u64, v: u64, d: u64) -> u64
-    requires { ⌜ (b + v < a) × (1 ≤ d) ⌝ }
-    ensures { λ r. ⌜ r ≡ (a - (b + v) - 1) / d ⌝ }
-{
-    (a - (b + v) - 1) / d
-}
-
-// The least rate that the sample `next`, of tilted value `height`, leaves with the one at i on the chain.
-fn left_at(x: &[u32; 1024], v: &[u64; 1024], i: usize, next: u32, height: u64, slack: u64) -> u64
-    requires { ⌜ (i < 1024) × (getD (now x) i 0 < next) × (getD (now v) i 0 + slack < height) ⌝ }
-    ensures { λ r. ⌜ r ≡ leftAt (now (x .entry)) (now (v .entry)) i next height slack ⌝ }
+// The least rate that the sample `next` leaves with the one at i on the chain; `top` is one below its tilted value less twice the tolerance.
+fn left_at(x: &[u32; 1024], v: &[u64; 1024], i: usize, next: u32, top: u64) -> u64
+    requires { ⌜ (i < 1024) × (getD (now x) i 0 < next) × (getD (now v) i 0 ≤ top) ⌝ }
+    ensures { λ r. ⌜ r ≡ leftAt (now (x .entry)) (now (v .entry)) i next top ⌝ }
 {
     let k = x[i];
     let y = v[i];
-    rate_low(height, y, slack, (next - k) as u64)
+    (top - y) / ((next - k) as u64)
 }
 
 // A place on a chain, and a rate found there.
@@ -47,14 +39,15 @@ pub fn ask(
     requires { ⌜ tail < 1024 ⌝ }
     ensures { λ r. ⌜ (head ≤ r .at) × (r .at ≤ tail) × Asked tilt (now (x .entry)) (now (v .entry)) (now (q .entry)) head tail next height slack least (r .at) (r .rate) ⌝ }
 {
+    let top = height - slack - 1;
     let mut i = head;
-    let mut p = larger(least, left_at(x, v, i, next, height, slack));
+    let mut p = larger(least, left_at(x, v, i, next, top));
     while i < tail {
         if p < q[i + 1] {
             return Found { at: i, rate: p };
         }
         i += 1;
-        p = larger(p, left_at(x, v, i, next, height, slack));
+        p = larger(p, left_at(x, v, i, next, top));
     }
     Found { at: i, rate: p }
 }
@@ -73,14 +66,15 @@ fn keep(
     requires { ⌜ tail < 1024 ⌝ }
     ensures { λ r. ⌜ (head ≤ r .at) × (r .at ≤ tail) × (head < r .at → getD (now (q .entry)) (r .at) 0 ≤ r .rate) × Keeping tilt (now (x .entry)) (now (v .entry)) (now (q .entry)) head tail next height (r .at) (r .rate) ⌝ }
 {
+    let top = height - 1;
     let mut i = tail;
-    let mut p = left_at(x, v, i, next, height, 0);
+    let mut p = left_at(x, v, i, next, top);
     while head < i {
         if q[i] < p {
             return Found { at: i, rate: p };
         }
         i -= 1;
-        p = left_at(x, v, i, next, height, 0);
+        p = left_at(x, v, i, next, top);
     }
     Found { at: i, rate: p }
 }

@@ -1,7 +1,7 @@
 // The line of a run: its rate and its offset by the rule.
 ghost use mathlib.Core.Path.{_≡_};
 ghost use mathlib.Core.Bool.{cond};
-ghost use Prim.Native.Nat.{ℕ, _+_, _*_, _≤_};
+ghost use Prim.Native.Nat.{_+_, _*_, _≤_};
 ghost use lib.Dec.{T, eqb};
 ghost use lib.IntN.{subℕ};
 ghost use lib.ListN.{length};

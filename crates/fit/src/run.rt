@@ -1,6 +1,6 @@
 // The longest run of samples from a given one that some line fits.
 ghost use mathlib.Core.Path.{_≡_};
-ghost use Prim.Native.Nat.{ℕ, _+_, _*_, _-_, _<_, _≤_};
+ghost use Prim.Native.Nat.{_+_, _*_, _-_, _<_, _≤_};
 ghost use lib.ListN.{length};
 ghost use Rattle.fit.specs.Greedy.{grow};
 ghost use Rattle.fit.specs.Line.{Small};
@@ -17,7 +17,8 @@ pub struct Run {
 }
 
 // The longest run of at most `most` samples from `first` that some line fits: found by two chains, one of the samples and one of the samples
-// turned over, which the arrays are lent to hold.
+// turned over, which the arrays are lent to hold. xa, va, qa hold the first, from i to j; xb, vb, qb the second, from k to n; l and h are the least rates of
+// both, and the run fits while their sum is at most twice the tilt.
 pub fn longest_run(
     samples: &[i64],
     tolerance: u64,

@@ -1,6 +1,6 @@
 // Samples made non-negative, so that all that follows is unsigned.
 ghost use mathlib.Core.Path.{_≡_};
-ghost use Prim.Native.Nat.{ℕ, _-_, _<_, _≤_, max};
+ghost use Prim.Native.Nat.{_-_, _<_, _≤_, max};
 ghost use Rattle.whole.specs.Whole.{∣_∣};
 ghost use Rattle.fit.specs.Line.{Small};
 ghost use Rattle.fit.specs.Rates.{bias, scaled};

@@ -1,20 +1,18 @@
 -- What the calls answer: the value is always a prediction in range or 0, the number 0 or 9, and 9 exactly if a segment is malformed or none covers the sample.
 use mathlib.Core.Path.{_≡_, refl, sym, ap, subst, _∙_}
-use mathlib.Core.Bool.{Bool, true, false, not, cond, _&&_}
+use mathlib.Core.Bool.{Bool, true, false, cond, _&&_}
 use mathlib.Core.List.{List, [], _∷_}
 use mathlib.Core.Logic.{_↔_, ⊎-elim}
-use Prim.Native.Nat.{ℕ, zero, suc, _+_, _-_, _≤_, _<_}
+use Prim.Native.Nat.{ℕ, _+_, _-_, _≤_}
 use native.Mathlib.Omega.{arith}
-use lib.Dec.{T}
 use lib.IntN.{ℤ, pos, _-ℤ_}
 use Rattle.whole.specs.Whole.{P, ∣_∣}
-use Rattle.whole.proofs.Linear.{no-ft, no-tf}
-use Rattle.fit.proofs.Tests.{lt-or, by-test}
+use Rattle.fit.proofs.Tests.{lt-or}
 use Rattle.track.specs.declared.Number.{Number}
 use Rattle.predict.specs.declared.Host.{Host}
-use Rattle.predict.specs.Lent.{Lent, lentOf, segmentOk, soundFrom, covers, coveredBy, predicted, answerAt, refused, predictOutcome}
+use Rattle.predict.specs.Lent.{Lent, lentOf, soundFrom, covers, coveredBy, predicted, answerAt, refused, predictOutcome}
 use Rattle.predict.specs.Host.{hostOutcome}
-use Rattle.predict.proofs.Numbers.{Good, good, sound-head, covered, passed}
+use Rattle.predict.proofs.Numbers.{good, sound-head, covered, passed}
 
 -- any two results that a promise allows are equal
 pub one-prediction : (s : List ℤ) (k : ℕ) (x y : Number) → x ≡ predictOutcome s k → y ≡ predictOutcome s k → x ≡ y

@@ -1,13 +1,13 @@
 -- Tests joined, and an order moved from one side to the other.
-use mathlib.Core.Path.{_≡_, refl, sym, ap, subst, _∙_}
+use mathlib.Core.Path.{_≡_, refl, sym}
 use mathlib.Core.Bool.{Bool, true, false, _&&_}
-use Prim.Native.Nat.{ℕ, _+_, _≤_}
+use Prim.Native.Nat.{_+_, _≤_}
 use native.Mathlib.Omega.{arith}
 use lib.IntN.{ℤ, pos, _+ℤ_, _-ℤ_, +ℤ-idr}
 use lib.Signed.{leZ, _≤ℤ_}
 use Rattle.whole.specs.Whole.{P, N, ∣_∣}
 use Rattle.whole.proofs.Linear.{leZ-true, leZ-false, le⇒}
-use Rattle.whole.proofs.Quote.{⟨_⟩, #, _⊕_, _⊝_, bal}
+use Rattle.whole.proofs.Quote.{⟨_⟩, #, _⊝_, bal}
 use Rattle.predict.proofs.Reach.{size-to}
 
 pub yes-and : (a b : Bool) → a ≡ true → (a && b) ≡ b

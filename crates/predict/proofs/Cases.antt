@@ -1,9 +1,8 @@
 -- Document 01, 'Numbers to meet': the starred case of a prediction, by computation; and halves, which go away from zero.
 use mathlib.Core.Path.{_≡_, refl}
-use mathlib.Core.List.{List, [], _∷_}
-use lib.IntN.{ℤ, pos, negsuc}
+use mathlib.Core.List.{[], _∷_}
+use lib.IntN.{pos, negsuc}
 use Rattle.track.specs.Answer.{each}
-use Rattle.track.specs.declared.Number.{Number}
 use Rattle.predict.specs.Lent.{lentOf, predictionsOk, segmentOk, soundFrom, answerAt, predictOutcome}
 
 -- "(0, 3, 65536, -32768), predicting 1 at sample 1"

@@ -1,8 +1,8 @@
 -- A lent track as a loop reads it, four numbers at a time; and what the four conditions leave.
-use mathlib.Core.Path.{_≡_, refl, sym, ap, ap₂, subst, _∙_}
+use mathlib.Core.Path.{_≡_, refl, sym, ap, ap₂, _∙_}
 use mathlib.Core.Bool.{Bool, true, false, cond, _&&_}
 use mathlib.Core.List.{List, [], _∷_}
-use Prim.Native.Nat.{ℕ, zero, suc, _+_, _*_, _/_, _-_, _≤_, _<_}
+use Prim.Native.Nat.{ℕ, suc, _+_, _*_, _/_, _-_, _≤_, _<_}
 use native.Mathlib.Omega.{arith}
 use borrow.Author.Tests.{leb-true, le-leb}
 use lib.Dec.{leb}
@@ -10,12 +10,11 @@ use lib.ListN.{length, getD, drop, length-drop}
 use lib.Seq.{drop-cons}
 use lib.IntN.{ℤ, pos, negsuc, _+ℤ_, _-ℤ_, _*ℤ_}
 use lib.Signed.{leZ, ltZ}
-use Rattle.whole.specs.Whole.{P, N, ∣_∣, R}
+use Rattle.whole.specs.Whole.{P, N, ∣_∣}
 use Rattle.whole.proofs.Linear.{and-true, leZ-true, ⇒eq, ltZ-true, ltZ-false, no-ft}
 use Rattle.whole.proofs.Quote.{⟨_⟩, #, _⊕_, _⊝_, bal, by≡}
-use Rattle.track.specs.declared.Number.{Number}
 use Rattle.track.proofs.Each.{each-at, and-no}
-use Rattle.predict.specs.Lent.{Lent, lentOf, predicted, placeOk, lengthOk, rangeOk, predictionsOk, segmentOk, soundFrom, covers, answerAt, refused}
+use Rattle.predict.specs.Lent.{Lent, lentOf, predicted, placeOk, lengthOk, rangeOk, predictionsOk, segmentOk, soundFrom, covers, answerAt}
 use Rattle.predict.specs.Ends.{reach}
 use Rattle.predict.proofs.Reach.{round-reach}
 

@@ -1,26 +1,26 @@
 -- Our own track: it is always well-formed, covers every sample, and predicts each within the tolerance.
-use mathlib.Core.Path.{_≡_, refl, sym, ap, ap₂, subst, _∙_}
-use mathlib.Core.Bool.{Bool, true, false, _&&_}
-use mathlib.Core.List.{List, [], _∷_}
+use mathlib.Core.Path.{_≡_, refl, sym, ap, subst, _∙_}
+use mathlib.Core.Bool.{true, _&&_}
+use mathlib.Core.List.{List, _∷_}
 use mathlib.Core.Logic.{⊎-elim}
-use Prim.Native.Nat.{ℕ, zero, suc, _+_, _*_, _-_, _≤_, _<_}
+use Prim.Native.Nat.{ℕ, _+_, _*_, _-_, _≤_, _<_}
 use native.Mathlib.Omega.{arith}
 use borrow.Author.Tests.{le-leb}
 use lib.Dec.{leb}
 use lib.ListN.{length}
 use lib.IntN.{ℤ, pos, _+ℤ_, _-ℤ_, _*ℤ_}
-use lib.Signed.{leZ, _≤ℤ_}
+use lib.Signed.{_≤ℤ_}
 use Rattle.whole.specs.Whole.{P, N, ∣_∣, R}
-use Rattle.whole.proofs.Linear.{le⇒, abs-add, abs-sub}
+use Rattle.whole.proofs.Linear.{le⇒, abs-sub}
 use Rattle.whole.proofs.Quote.{⟨_⟩, #, _⊕_, _⊝_, _⊗_, bal, by≡, by≤}
 use Rattle.whole.proofs.Rounding.{R-mono, R-mul}
 use Rattle.fit.specs.Line.{sample, Fits, Small}
 use Rattle.fit.proofs.Tests.{lt-or, at-or}
 use Rattle.track.specs.Segments.{Segment, flat}
-use Rattle.track.specs.Rule.{RuledFrom, Ruled}
+use Rattle.track.specs.Rule.{RuledFrom}
 use Rattle.track.specs.Made.{trackOf}
 use Rattle.track.specs.Answer.{inRange}
-use Rattle.track.proofs.Each.{Ranged, ranged, each-of, and-both}
+use Rattle.track.proofs.Each.{ranged, each-of, and-both}
 use Rattle.track.proofs.Theorems.{trackOf-ruled}
 use Rattle.predict.specs.Lent.{Lent, lentOf, predicted, placeOk, lengthOk, rangeOk, predictionsOk, segmentOk, soundFrom, answerAt, predictOutcome}
 use Rattle.predict.specs.Ends.{reach}

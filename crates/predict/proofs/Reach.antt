@@ -2,19 +2,19 @@
 use mathlib.Core.Path.{_≡_, refl, sym, ap, subst, _∙_}
 use mathlib.Core.Bool.{Bool, true, false, _&&_}
 use mathlib.Core.Logic.{⊎-elim}
-use Prim.Native.Nat.{ℕ, zero, suc, _+_, _*_, _/_, _-_, _≤_, _<_}
+use Prim.Native.Nat.{ℕ, zero, suc, _+_, _*_, _-_, _≤_, _<_}
 use native.Mathlib.Nat.{mul-le-mul-left}
 use native.Mathlib.Omega.{arith}
-use borrow.Author.Tests.{le-leb, lt-leb, leb-true, leb-false}
+use borrow.Author.Tests.{le-leb, lt-leb, leb-true}
 use lib.Dec.{leb}
-use lib.IntN.{ℤ, pos, negsuc, negℤ, _+ℤ_, _-ℤ_, _*ℤ_, *ℤ-zero, +ℤ-idr}
+use lib.IntN.{ℤ, pos, negsuc, _+ℤ_, _-ℤ_, _*ℤ_, *ℤ-zero, +ℤ-idr}
 use lib.Signed.{leZ}
 use Rattle.whole.specs.Whole.{P, N, ∣_∣, R, near}
-use Rattle.whole.proofs.Linear.{and-true, P-neg, N-neg, no-ft}
+use Rattle.whole.proofs.Linear.{P-neg, N-neg, no-ft}
 use Rattle.whole.proofs.Quote.{⟨_⟩, #, _⊕_, _⊝_, _⊗_, bal, by≡}
 use Rattle.fit.proofs.Tests.{lt-or}
 use Rattle.track.specs.Answer.{each}
-use Rattle.track.proofs.Each.{each-at, each-of, each-fails, and-both, and-no, no-and}
+use Rattle.track.proofs.Each.{each-of, each-fails}
 use Rattle.predict.specs.Lent.{Lent, predicted, lengthOk, predictionsOk}
 use Rattle.predict.specs.Ends.{reach, endsOk}
 

@@ -1,13 +1,12 @@
 -- Document 01, 'Track': "The host record of one prediction holds two doubles: seconds, the ps made a double and divided once by 1e12; and 32 MHz clock cycles, the
 -- ps times 32, divided once by 1e6." In the logic's IEEE terms.
 use Prim.Native.Nat.{ℕ}
-use mathlib.Core.Bool.{Bool, cond}
+use mathlib.Core.Bool.{cond}
 use mathlib.Core.List.{List}
 use lib.IntN.{ℤ, pos, _*ℤ_}
 use lib.Signed.{leZ}
 use lib.Ieee as Ieee
 use lib.Ieee.{binary64, ofInt}
-use Rattle.track.specs.declared.Number.{Number}
 use Rattle.predict.specs.declared.Record.{Record}
 use Rattle.predict.specs.declared.Host.{Host}
 use Rattle.predict.specs.Lent.{predictOutcome}

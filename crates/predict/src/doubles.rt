@@ -1,6 +1,6 @@
 // The host record of one prediction.
 ghost use mathlib.Core.Path.{_≡_};
-ghost use Prim.Native.Nat.{ℕ, _≤_};
+ghost use Prim.Native.Nat.{_≤_};
 ghost use Rattle.whole.specs.Whole.{∣_∣};
 ghost use Rattle.predict.specs.Host.{recordOf};
 use super::Record;

@@ -1,13 +1,13 @@
 // The four conditions on a segment of a lent track, one by one.
 ghost use mathlib.Core.Path.{_≡_};
 ghost use mathlib.Core.Bool.{_&&_};
-ghost use Prim.Native.Nat.{ℕ, _≤_};
+ghost use Prim.Native.Nat.{_≤_};
 ghost use lib.Dec.{leb};
 ghost use lib.IntN.{pos, _+ℤ_};
 ghost use lib.Signed.{leZ, _≤ℤ_};
 ghost use Rattle.whole.specs.Whole.{∣_∣};
-ghost use Rattle.predict.specs.Lent.{placeOk, lengthOk, rangeOk, predictionsOk, segmentOk};
-ghost use Rattle.predict.specs.Ends.{reach, endsOk};
+ghost use Rattle.predict.specs.Lent.{segmentOk};
+ghost use Rattle.predict.specs.Ends.{endsOk};
 use whole::long::within;
 use whole::sign::in_range;
 use whole::sign::size;

@@ -4,3 +4,4 @@ pub mod Blame
 pub mod Laws
 pub mod Past
 pub mod Promises
+pub mod Unique

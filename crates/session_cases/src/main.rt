@@ -100,24 +100,46 @@ fn show_files(s: &[u8]) {
     }
 }
 
-// The smallest file, written; then what the room holds.
-fn show_written(room: &mut [u8]) {
+// The writer's answer, then what the reader says of the room.
+fn show_written(stations: &[i64], sources: &[i64], days: &[i64], passes: &[i64], room: &mut [u8]) {
+    let w = writer::write(stations, sources, days, passes, room);
+    show(w.refusal);
+    show(w.value);
+    show_answers(room);
+}
+
+// The smallest file, in a room that is enough and in one that is a byte short.
+fn show_rooms() {
     let stations = [1i64, 0, 0, 0];
     let sources = [1i64, 0, 0];
     let days = [51544i64, 0, 0, 0, 32, 51545, 0, 0, 0, 32];
     let passes = [1i64, 1, 1, 51544, 0, 1000, 3, 0];
-    let w = writer::write(&stations, &sources, &days, &passes, room);
-    show(w.refusal);
-    show(w.value);
-    show_answers(room);
+    let mut enough = [7u8; 304];
+    show_written(&stations, &sources, &days, &passes, &mut enough);
+    let mut short = [7u8; 303];
+    show_written(&stations, &sources, &days, &passes, &mut short);
+}
+
+// Lists that are refused, each by one number more: a record that is cut, a length out of its range, ids that do not rise, days with a gap.
+fn show_refused() {
+    let cut = [1i64, 0, 0, 0, 2];
+    let far = [1i64, 0, 0, 6400000001];
+    let twice = [1i64, 0, 0, 0, 1, 0, 0, 0];
+    let stations = [1i64, 0, 0, 0];
+    let sources = [1i64, 0, 0];
+    let gap = [51544i64, 0, 0, 0, 32, 51546, 0, 0, 0, 32];
+    let passes = [1i64, 1, 1, 51544, 0, 1000, 3, 0];
+    let mut room = [7u8; 303];
+    show_written(&cut, &sources, &gap, &passes, &mut room);
+    show_written(&far, &sources, &gap, &passes, &mut room);
+    show_written(&twice, &sources, &gap, &passes, &mut room);
+    show_written(&stations, &sources, &gap, &passes, &mut room);
 }
 
 fn main() {
     let mut buf = [0u8; 120000];
     let n = io::read_full(0, &mut buf);
     show_files(&buf[..n]);
-    let mut enough = [7u8; 304];
-    show_written(&mut enough);
-    let mut short = [7u8; 303];
-    show_written(&mut short);
+    show_rooms();
+    show_refused();
 }

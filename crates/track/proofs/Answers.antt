@@ -1,22 +1,20 @@
 -- What the call `track` answers in each case; that it is refused with 8 exactly if no track of the samples fits the room; that the promise allows one result.
-use mathlib.Core.Path.{_≡_, refl, sym, ap, subst, _∙_}
-use mathlib.Core.Bool.{Bool, true, false, cond}
-use mathlib.Core.List.{List, _++_}
+use mathlib.Core.Path.{_≡_, sym, ap, _∙_}
+use mathlib.Core.Bool.{true, false}
+use mathlib.Core.List.{List}
 use mathlib.Core.Logic.{_↔_, ⊎-elim}
-use Prim.Native.Nat.{ℕ, _+_, _*_, _/_, _≤_, _<_}
+use Prim.Native.Nat.{ℕ, _/_, _≤_, _<_}
 use native.Mathlib.Omega.{arith}
 use borrow.Author.Tests.{lt-leb, le-leb}
-use lib.Dec.{leb}
-use lib.ListN.{length, drop}
+use lib.ListN.{length}
 use lib.IntN.{ℤ, pos}
 use Rattle.whole.specs.Whole.{P}
 use Rattle.fit.proofs.Tests.{lt-or}
-use Rattle.track.specs.Segments.{Segment, IsTrack, flat}
-use Rattle.track.specs.Rule.{Ruled}
+use Rattle.track.specs.Segments.{Segment, IsTrack}
 use Rattle.track.specs.Made.{trackOf}
 use Rattle.track.specs.Answer.{inRange, Outcome, refused, written, outcome}
-use Rattle.track.proofs.Each.{Ranged, ranged}
-use Rattle.track.proofs.Theorems.{trackOf-ruled, trackOf-track, trackOf-fewest, trackOf-half}
+use Rattle.track.proofs.Each.{ranged}
+use Rattle.track.proofs.Theorems.{trackOf-track, trackOf-fewest, trackOf-half}
 
 -- any two results that the promise allows are equal
 pub one-result : (s : List ℤ) (t : ℤ) (room : List ℤ) (x y : Outcome) → x ≡ outcome s t room → y ≡ outcome s t room → x ≡ y

@@ -6,7 +6,7 @@ use Rattle.fit.specs.Greedy.{grow, longest, counts}
 use Rattle.fit.specs.Rates.{low, upp, rowLo, rowHi, lo, hi, fit, off, bias, scaled, fitOf, tilted, lifted, rateOf, offsetOf}
 use Rattle.track.specs.Segments.{flat}
 use Rattle.track.specs.Made.{segOf, segsOf, trackOf}
-use Rattle.track.specs.Answer.{each, inRange, Outcome, refused, outcome}
+use Rattle.track.specs.Answer.{each, inRange, refused, outcome}
 
 -- room for two segments, and three numbers more
 abbrev room : List ℤ

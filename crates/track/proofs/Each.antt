@@ -6,7 +6,7 @@ use mathlib.Core.Logic.{⊎-elim}
 use Prim.Native.Nat.{ℕ, zero, suc, _+_, _≤_, _<_}
 use native.Mathlib.Numerals.{add-one}
 use native.Mathlib.Omega.{arith}
-use borrow.Author.Tests.{leb-true}
+use borrow.Author.Tests.{leb-true, le-leb, lt-leb}
 use lib.Dec.{leb}
 use lib.ListN.{length, List·getD-eq-default}
 use lib.IntN.{ℤ, pos, negsuc}
@@ -60,6 +60,17 @@ pub each-of : (n : ℕ) (p : ℕ → Bool) → ((i : ℕ) → i < n → p i ≡ 
 unfolding each
 each-of zero p h = refl
 each-of (suc n) p h = and-both (each n p) (p n) (each-of n p (λ i l. h i (omega arith))) (h n (omega arith))
+
+-- within ±130,000,000,000, as the code tests it
+pub small-test : (z : ℤ) → (leZ (negsuc 129_999_999_999) z && leZ z (pos 130_000_000_000)) ≡ leb ∣ z ∣ 130_000_000_000
+small-test (pos n) = ap (λ (k : ℕ). leb k 130_000_000_000) (plain n)
+  where
+    plain : (n : ℕ) → n ≡ ∣ pos n ∣
+    plain n = omega arith
+small-test (negsuc n) = ⊎-elim
+    (λ l. no-and (leb n 129_999_999_999) true (lt-leb n 129_999_999_999 l) ∙ sym (lt-leb ∣ negsuc n ∣ 130_000_000_000 (omega arith)))
+    (λ l. and-both (leb n 129_999_999_999) true (le-leb n 129_999_999_999 l) refl ∙ sym (le-leb ∣ negsuc n ∣ 130_000_000_000 (omega arith)))
+    (lt-or 129_999_999_999 n)
 
 pub small-of : (s : List ℤ) → each (length s) (smallAt s) ≡ true → Small s
 small-of s h i = ⊎-elim (λ l. leb-true ∣ sample s i ∣ 130_000_000_000 (each-at (length s) i (smallAt s) h l))

@@ -1,6 +1,5 @@
 -- The track as a loop goes through it, run by run.
-use mathlib.Core.Path.{_≡_, refl, sym, ap, ap₂, subst, _∙_}
-use mathlib.Core.Bool.{Bool, true, false, not, cond}
+use mathlib.Core.Path.{_≡_, refl, sym, ap, _∙_}
 use mathlib.Core.List.{List, [], _∷_}
 use mathlib.Core.Logic.{⊎-elim}
 use Prim.Native.Nat.{ℕ, zero, suc, _+_, _*_, _-_, _≤_, _<_}
@@ -9,9 +8,9 @@ use native.Mathlib.Omega.{arith}
 use lib.Dec.{T, ltb, ltb→lt, nltb→le}
 use lib.ListN.{length, getD, set}
 use lib.Seq.{getD-set-same, getD-set-other}
-use lib.IntN.{ℤ, pos}
+use lib.IntN.{ℤ}
 use Rattle.fit.specs.Line.{Small}
-use Rattle.fit.specs.Greedy.{longest, counts}
+use Rattle.fit.specs.Greedy.{counts}
 use Rattle.fit.specs.Rates.{fitOf, least}
 use Rattle.fit.proofs.Tests.{by-test, at-or}
 use Rattle.fit.proofs.Greedy.{longest-pos, longest-fits, longest-cap, longest-within}

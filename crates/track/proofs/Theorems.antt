@@ -1,6 +1,6 @@
 -- THE THEOREMS of demand 3: the rule allows exactly one list, which is `trackOf`; it is a track of the samples; and no track of the samples has fewer segments.
 use mathlib.Core.Path.{_≡_, refl, sym, ap, ap₂, subst, _∙_}
-use mathlib.Core.Bool.{Bool, true, false, not, cond}
+use mathlib.Core.Bool.{Bool, true, false, not}
 use mathlib.Core.List.{List, [], _∷_, map}
 use mathlib.Core.Logic.{_↔_}
 use Prim.Native.Nat.{ℕ, zero, suc, _+_, _*_, _≤_, _<_}
@@ -11,7 +11,7 @@ use lib.IntN.{ℤ, pos}
 use lib.Signed.{_≤ℤ_}
 use Rattle.fit.specs.Line.{Fits, Small}
 use Rattle.fit.specs.Greedy.{longest, counts, Cover, done, step}
-use Rattle.fit.specs.Rates.{fitOf, offsetOf, rateOf}
+use Rattle.fit.specs.Rates.{fitOf, rateOf}
 use Rattle.fit.proofs.Tests.{by-test}
 use Rattle.fit.proofs.Diff.{≤ℤ-antisym}
 use Rattle.fit.proofs.Greedy.{longest-pos, longest-fits, longest-cap, longest-within, longest-most, fewest, counts-half}

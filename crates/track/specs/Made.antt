@@ -1,5 +1,5 @@
 -- The one list of segments that the rule allows, as the code makes it, run by run. That it is the rule's is proved, so no reader need believe this file.
-use Prim.Native.Nat.{ℕ, zero, suc, _+_, _≤_, _<_}
+use Prim.Native.Nat.{ℕ, zero, suc, _+_, _<_}
 use mathlib.Core.Path.{_≡_}
 use mathlib.Core.List.{List, [], _∷_}
 use lib.ListN.{length, getD}

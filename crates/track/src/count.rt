@@ -1,7 +1,7 @@
 // The first step of a track: its runs, and so the number of its segments, worked out over lent scratch space.
 ghost use mathlib.Core.Path.{_≡_};
-ghost use Prim.Native.Nat.{ℕ, _-_, _<_, _≤_, min};
-ghost use lib.ListN.{length, set};
+ghost use Prim.Native.Nat.{_-_, _<_, _≤_, min};
+ghost use lib.ListN.{length};
 ghost use Rattle.fit.specs.Line.{Small};
 ghost use Rattle.track.specs.Made.{trackOf, Stored};
 use fit::run::longest_run;
@@ -19,7 +19,7 @@ fn most_from(n: usize, f: usize) -> usize
 pub fn count_segments(
     samples: &[i64],
     tolerance: u64,
-    counts: &mut [u32; 2048],
+    counts: &mut [u16; 2048],
     rates: &mut [u64; 2048],
 ) -> usize
     requires { ⌜ Small (now samples) × (length (now samples) ≤ 4096) ⌝ }
@@ -50,7 +50,7 @@ pub fn count_segments(
             &mut qb,
         );
         let c = run.count;
-        counts[m] = c as u32;
+        counts[m] = c as u16;
         rates[m] = run.least;
         f += c;
         m += 1;

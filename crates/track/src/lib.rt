@@ -18,13 +18,13 @@ pub struct Number {
 pub fn track(samples: &[i64], tolerance: i64, room: &mut [i64]) -> Number
     ensures { λ r. ⌜ _≡_ {A = Outcome} (record { answer = r; room = now (room .exit) }) (outcome (now (samples .entry)) tolerance (now (room .entry))) ⌝ }
 {
-    if !range::in_range(samples, tolerance) {
+    if !range::call_in_range(samples, tolerance) {
         return Number {
             refusal: 2,
             value: 0,
         };
     }
-    let mut counts: [u32; 2048] = [0; 2048];
+    let mut counts: [u16; 2048] = [0; 2048];
     let mut rates: [u64; 2048] = [0; 2048];
     let t = tolerance as u64;
     let m = count::count_segments(samples, t, &mut counts, &mut rates);

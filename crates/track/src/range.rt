@@ -1,9 +1,8 @@
 // Refusal 2: what a track call takes.
 ghost use mathlib.Core.Path.{_≡_};
-ghost use Prim.Native.Nat.{ℕ};
 ghost use lib.ListN.{length};
 ghost use Rattle.track.specs.Answer.{each, smallAt, inRange};
-use whole::sign::size;
+use whole::sign::in_range;
 
 // Whether each sample is at most 130_000_000_000 in size.
 fn all_small(samples: &[i64]) -> bool
@@ -12,7 +11,7 @@ fn all_small(samples: &[i64]) -> bool
     let mut i: usize = 0;
     while i < samples.len() {
         let z = samples[i];
-        if 130_000_000_000 < size(z) {
+        if !in_range(z, -130_000_000_000, 130_000_000_000) {
             return false;
         }
         i += 1;
@@ -21,7 +20,7 @@ fn all_small(samples: &[i64]) -> bool
 }
 
 // Whether the samples and the tolerance are in their ranges.
-pub fn in_range(samples: &[i64], tolerance: i64) -> bool
+pub fn call_in_range(samples: &[i64], tolerance: i64) -> bool
     ensures { λ r. ⌜ r ≡ inRange (now (samples .entry)) tolerance ⌝ }
 {
     if samples.len() < 1 {

@@ -1,7 +1,7 @@
 // The second step of a track: its segments written to the lent room.
 ghost use mathlib.Core.Path.{_≡_};
-ghost use mathlib.Core.List.{List, _++_};
-ghost use Prim.Native.Nat.{ℕ, _+_, _*_, _<_, _≤_};
+ghost use mathlib.Core.List.{_++_};
+ghost use Prim.Native.Nat.{_+_, _*_, _<_, _≤_};
 ghost use lib.ListN.{length, drop, set};
 ghost use Rattle.fit.specs.Line.{Small};
 ghost use Rattle.track.specs.Segments.{flat};
@@ -22,7 +22,7 @@ fn put(room: &mut [i64], at: usize, a: i64, b: i64, c: i64, d: i64)
 pub fn write_segments(
     samples: &[i64],
     tolerance: u64,
-    counts: &[u32; 2048],
+    counts: &[u16; 2048],
     rates: &[u64; 2048],
     many: usize,
     room: &mut [i64],

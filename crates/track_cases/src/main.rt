@@ -1,7 +1,6 @@
 // Every track case that document 01 lists, with room exactly enough, one segment short, and a ragged tail of one to three numbers that stays; and what the
 // tracks predict. A line is the refusal, the value, and the room after the call, which was lent full of 7s.
 ghost use Prim.Native.Nat.{_≤_};
-ghost use lib.ListN.{length};
 use whole::sign::size;
 
 fn print(n: i64) {
@@ -75,6 +74,10 @@ fn tracks() {
     one(&[0, 0, 1], 1);
     one(&[0, 10, 0], 5);
     two(&[0, 10, 0], 4);
+}
+
+// "1,025 zeros: segments of 1,024 and 1. No samples: 2."
+fn long_and_empty() {
     let zeros: [i64; 1025] = [0; 1025];
     two(&zeros, 0);
     one(&zeros[..0], 0);
@@ -113,6 +116,7 @@ fn predictions() {
 
 fn main() {
     tracks();
+    long_and_empty();
     ranges();
     predictions();
 }

@@ -74,6 +74,11 @@ module _ (p q r t : List ℤ) (g : listsRight kinds (length p) (length q) (lengt
       word-of (fileWords kinds p q r t) j (omega (arith, ws-long))
       ∙ List·getD-append (contentsFor kinds (length p) (length q) (length r) (length t)) (wordsOf p ++ (wordsOf q ++ (wordsOf r ++ wordsOf t))) 0 j (omega (arith, head-long))
 
+  -- the words of the contents table
+  pub contents-word : (j : ℕ) → j < 13 → word (fileOf kinds p q r t) j ≡ getD (contentsFor kinds (length p) (length q) (length r) (length t)) j 0
+  unfolding fileOf ws head
+  contents-word j l = head-word j l
+
   module _ (lp : Longs p) (lq : Longs q) (lr : Longs r) (lt : Longs t) (h : refusalOf (fileOf kinds p q r t) ≡ 0) where
     n₁ : 4 * countOf (fileOf kinds p q r t) 0 ≡ length p
     unfolding fileOf ws head contentsFor layoutIn places station

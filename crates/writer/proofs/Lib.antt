@@ -11,3 +11,4 @@ pub mod Back
 pub mod RoundTrips
 pub mod Fitting
 pub mod Promises
+pub mod Made

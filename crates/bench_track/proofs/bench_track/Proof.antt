@@ -1,9 +1,9 @@
 -- `bench_track::bench_track` meets its contract.
-use mathlib.Core.Path.{_≡_, ap, _∙_}
+use mathlib.Core.Path.{ap, _∙_}
 use lib.IntN.{ℤ}
 use borrow.Author.Needs.{needs}
 use Rattle.whole.proofs.Linear.{back}
-use Rattle.track.specs.Answer.{Outcome, outcome}
+use Rattle.track.specs.Answer.{outcome}
 use Rattle.bench_track.proofs.bench_track.Statement.{statement}
 use Rattle.bench_track.proofs.bench_track.Tie as tie
 

@@ -1,8 +1,8 @@
 -- `track::track` meets its contract.
 use mathlib.Core.Path.{_≡_, refl, sym, ap, subst, _∙_}
-use mathlib.Core.Bool.{true, false}
-use mathlib.Core.List.{List, _++_}
-use Prim.Native.Nat.{ℕ, _+_, _*_, _/_, _^_, _≤_, _<_}
+use mathlib.Core.Bool.{true}
+use mathlib.Core.List.{_++_}
+use Prim.Native.Nat.{ℕ, _+_, _*_, _/_, _≤_, _<_}
 use native.Mathlib.Omega.{arith}
 use borrow.Author.Needs.{needs}
 use borrow.Author.Tests.{not-true, not-false}
@@ -11,25 +11,25 @@ use lib.IntN.{ℤ, pos, negsuc, natAbs}
 use lib.ListN.{length, drop}
 use lib.Signed.{nonNeg}
 use mir.Syntax.{w64}
-use mir.Val.{Fits, SFits, toZ, ofZ}
+use mir.Val.{Fits, toZ, ofZ}
 use mir.ValLaws.{toZ-pos}
 use Rattle.whole.specs.Whole.{P, N}
 use Rattle.whole.proofs.Linear.{back}
 use Rattle.track.specs.Segments.{flat}
 use Rattle.track.specs.Made.{trackOf}
-use Rattle.track.specs.Answer.{inRange, Outcome, outcome}
+use Rattle.track.specs.Answer.{inRange}
 use Rattle.track.proofs.Each.{Ranged, ranged}
 use Rattle.track.proofs.Answers.{answer-2, answer-8, answer-0}
 use Rattle.track.proofs.Theorems.{trackOf-half}
 use Rattle.track.proofs.track.Statement.{statement}
 use Rattle.track.proofs.track.Tie as tie
 
-in-range-requires : tie.Need-in-range-requires
-in-range-requires c κs = search needs
+call-in-range-requires : tie.Need-call-in-range-requires
+call-in-range-requires c κs = search needs
 
 -- what the test says of the arguments
-says : (c : tie.After-in-range) → c .in-range .result ≡ inRange (c .before .args .samples .now) (c .before .args .tolerance)
-says c = c .in-range .ensures ∙ ap (λ (y : ℤ). inRange (c .before .args .samples .now) y) (back (c .before .fits .tolerance))
+says : (c : tie.After-call-in-range) → c .call-in-range .result ≡ inRange (c .before .args .samples .now) (c .before .args .tolerance)
+says c = c .call-in-range .ensures ∙ ap (λ (y : ℤ). inRange (c .before .args .samples .now) y) (back (c .before .fits .tolerance))
 
 returns : tie.Need-returns
 returns c = let x = c .before .before .args in
@@ -102,7 +102,7 @@ pub track-spec : {M : Type 1} → statement M
 track-spec =
     tie.close
     (tie.spec
-    in-range-requires
+    call-in-range-requires
     returns
     cast-t
     count-segments-requires

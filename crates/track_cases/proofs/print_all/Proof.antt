@@ -1,5 +1,5 @@
 -- `track_cases::print_all` meets its contract.
-use Prim.Native.Nat.{ℕ, _≤_, _-_}
+use Prim.Native.Nat.{_≤_, _-_}
 use native.Mathlib.Omega.{arith}
 use lib.ListN.{length}
 use Rattle.track_cases.proofs.print_all.Statement.{statement}

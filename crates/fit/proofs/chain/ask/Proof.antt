@@ -1,7 +1,8 @@
 -- `fit::ask` meets its contract.
-use mathlib.Core.Path.{_≡_, refl}
-use Prim.Native.Nat.{ℕ, _+_, _-_, _≤_, _<_}
+use mathlib.Core.Path.{refl}
+use Prim.Native.Nat.{_+_, _-_, _≤_, _<_}
 use native.Mathlib.Omega.{arith}
+use lib.ListN.{getD}
 use borrow.Author.Needs.{needs}
 use Rattle.fit.specs.Rates.{tilt}
 use Rattle.fit.proofs.Walk.{Asking, ask-start, ask-step, ask-end}
@@ -9,14 +10,24 @@ use Rattle.fit.proofs.chain.ask.Statement.{statement}
 use Rattle.fit.proofs.chain.ask.Tie as tie
 
 abbrev Inv-loop : tie.InvT-loop
-Inv-loop x v q s z m a b l i₀ p₀ i p = (s ≤ i) × (i ≤ z) × Asking tilt x v q s z m a b l i p
+Inv-loop x v q s z m a b l t i₀ p₀ i p = (s ≤ i) × (i ≤ z) × Asking tilt x v q s z m a b l i p
 
 abbrev μ-loop : tie.MeasureT-loop
-μ-loop x v q s z m a b l i₀ p₀ i p = z - i
+μ-loop x v q s z m a b l t i₀ p₀ i p = z - i
+
+-- the head is below the new sample
+head-below : (c : tie.Start Inv-loop μ-loop) → getD (c .args .v .now) (c .args .head) 0 + c .args .slack < c .args .height
+head-below c = c .pre .0 .small (c .args .head) (omega arith) (c .pre .0 .some)
+
+sub-top : tie.Need-sub-top Inv-loop μ-loop
+sub-top c = omega (arith, head-below c)
+
+sub-top-2 : tie.Need-sub-top-2 Inv-loop μ-loop
+sub-top-2 c = omega (arith, head-below c)
 
 left-at-requires : tie.Need-left-at-requires Inv-loop μ-loop
 left-at-requires c κs = let h = c .pre .0 in let j : c .args .head ≤ c .args .head = omega arith in
-    (omega arith, h .before (c .args .head) j (h .some), h .small (c .args .head) j (h .some))
+    (omega arith, h .before (c .args .head) j (h .some), omega (arith, head-below c))
 
 larger-requires : tie.Need-larger-requires Inv-loop μ-loop
 larger-requires c κs = search needs
@@ -50,7 +61,7 @@ add-i c = omega arith
 left-at-requires-2 : tie.Need-left-at-requires-2 Inv-loop μ-loop
 left-at-requires-2 c κs = let k = c .before .before .before in let h = k .before .before .before .pre .0 in let i = k .loop .i + 1 in
     let u : k .before .before .before .args .head ≤ i = omega arith in let w : i ≤ k .before .before .before .args .tail = omega arith in
-    (omega arith, h .before i u w, h .small i u w)
+    (omega arith, h .before i u w, omega (arith, h .small i u w))
 
 larger-requires-2 : tie.Need-larger-requires-2 Inv-loop μ-loop
 larger-requires-2 c κs = search needs
@@ -79,6 +90,8 @@ ask-spec =
     (tie.spec
     Inv-loop
     μ-loop
+    sub-top
+    sub-top-2
     left-at-requires
     larger-requires
     loop-holds

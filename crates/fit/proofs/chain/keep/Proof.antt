@@ -1,7 +1,7 @@
 -- `fit::keep` meets its contract.
-use mathlib.Core.Path.{_≡_, refl}
-use Prim.Native.Nat.{ℕ, _+_, _-_, _≤_, _<_}
+use Prim.Native.Nat.{_+_, _-_, _≤_, _<_}
 use native.Mathlib.Omega.{arith}
+use lib.ListN.{getD}
 use borrow.Author.Needs.{needs}
 use Rattle.fit.specs.Rates.{tilt}
 use Rattle.fit.specs.Chains.{Keeping}
@@ -10,14 +10,21 @@ use Rattle.fit.proofs.chain.keep.Statement.{statement}
 use Rattle.fit.proofs.chain.keep.Tie as tie
 
 abbrev Inv-loop : tie.InvT-loop
-Inv-loop x v q s z m a i₀ p₀ i p = (s ≤ i) × (i ≤ z) × Keeping tilt x v q s z m a i p
+Inv-loop x v q s z m a t i₀ p₀ i p = (s ≤ i) × (i ≤ z) × Keeping tilt x v q s z m a i p
 
 abbrev μ-loop : tie.MeasureT-loop
-μ-loop x v q s z m a i₀ p₀ i p = i - s
+μ-loop x v q s z m a t i₀ p₀ i p = i - s
+
+-- the tail is below the new sample
+tail-below : (c : tie.Start Inv-loop μ-loop) → getD (c .args .v .now) (c .args .tail) 0 + 0 < c .args .height
+tail-below c = c .pre .0 .small (c .args .tail) (c .pre .0 .some) (omega arith)
+
+sub-top : tie.Need-sub-top Inv-loop μ-loop
+sub-top c = omega (arith, tail-below c)
 
 left-at-requires : tie.Need-left-at-requires Inv-loop μ-loop
 left-at-requires c κs = let h = c .pre .0 in let j : c .args .tail ≤ c .args .tail = omega arith in
-    (omega arith, h .before (c .args .tail) (h .some) j, h .small (c .args .tail) (h .some) j)
+    (omega arith, h .before (c .args .tail) (h .some) j, omega (arith, tail-below c))
 
 loop-holds : tie.Need-loop-holds Inv-loop μ-loop
 loop-holds c = let y = c .before .args in (
@@ -42,7 +49,7 @@ sub-i c = omega arith
 left-at-requires-2 : tie.Need-left-at-requires-2 Inv-loop μ-loop
 left-at-requires-2 c κs = let k = c .before .before .before in let h = k .before .before .pre .0 in let i = k .loop .i - 1 in
     let u : k .before .before .args .head ≤ i = omega arith in let w : i ≤ k .before .before .args .tail = omega arith in
-    (omega arith, h .before i u w, h .small i u w)
+    (omega arith, h .before i u w, omega (arith, h .small i u w))
 
 loop-less : tie.Need-loop-less Inv-loop μ-loop
 loop-less c = omega arith
@@ -66,6 +73,7 @@ keep-spec =
     (tie.spec
     Inv-loop
     μ-loop
+    sub-top
     left-at-requires
     loop-holds
     mul-if1

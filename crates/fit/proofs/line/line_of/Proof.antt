@@ -1,10 +1,10 @@
 -- `fit::line_of` meets its contract.
-use mathlib.Core.Path.{_≡_, refl, sym, ap, subst, _∙_}
+use mathlib.Core.Path.{_≡_, sym, ap, subst, _∙_}
 use mathlib.Core.Bool.{cond}
 use Prim.Native.Nat.{ℕ, _*_, _≤_}
 use native.Mathlib.Omega.{arith}
 use lib.Dec.{eqb}
-use lib.IntN.{ℤ, subℕ}
+use lib.IntN.{subℕ}
 use borrow.Author.Needs.{needs}
 use Rattle.fit.specs.Rates.{scaled, tilt, lift, lo, hi, off, tilted, lifted, offsetOf, rateOf}
 use Rattle.fit.proofs.Lines.{tilted-low, tilted-high, tilted-top, lifted-top}

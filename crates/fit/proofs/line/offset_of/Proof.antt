@@ -1,9 +1,8 @@
 -- `fit::offset_of` meets its contract.
-use mathlib.Core.Path.{_≡_, refl, sym, ap, subst, _∙_}
-use Prim.Native.Nat.{ℕ, suc, _+_, _*_, _-_, _≤_, _<_}
+use mathlib.Core.Path.{_≡_, refl, ap, _∙_}
+use Prim.Native.Nat.{ℕ, _+_, _*_, _-_, _≤_}
 use native.Mathlib.Omega.{arith}
 use borrow.Author.Needs.{needs}
-use lib.ListN.{length}
 use Rattle.fit.specs.Rates.{scaled, tilt, off}
 use Rattle.fit.proofs.Lines.{bound, floor}
 use Rattle.fit.proofs.Pairs.{rate-fits}

@@ -1,10 +1,8 @@
 -- `fit::longest_run` meets its contract.
-use mathlib.Core.Path.{_≡_, refl, sym, ap, subst, _∙_}
-use mathlib.Core.List.{List}
+use mathlib.Core.Path.{_≡_, refl, sym, ap, _∙_}
 use Prim.Native.Nat.{ℕ, _+_, _*_, _-_, _≤_, _<_}
 use native.Mathlib.Omega.{arith}
 use borrow.Author.Needs.{needs}
-use lib.ListN.{length}
 use Rattle.fit.specs.Greedy.{grow}
 use Rattle.fit.specs.Rates.{scaled, tilt, fitOf, hi, mirror}
 use Rattle.fit.proofs.Lines.{bound}

@@ -1,9 +1,9 @@
 -- `fit::scaled_at` meets its contract.
-use mathlib.Core.Path.{_≡_, refl, sym, ap, subst, _∙_}
+use mathlib.Core.Path.{_≡_, sym, ap, subst, _∙_}
 use Prim.Native.Nat.{ℕ, _≤_, _*_}
 use native.Mathlib.Omega.{arith}
 use borrow.Author.Needs.{needs}
-use lib.IntN.{ℤ, pos}
+use lib.IntN.{ℤ}
 use Rattle.whole.specs.Whole.{∣_∣}
 use Rattle.fit.specs.Line.{sample}
 use Rattle.fit.specs.Rates.{bias, scaled}

@@ -1,13 +1,13 @@
 -- `predict::record_of` meets its contract: both products are below 2^53, so each is made a double exactly.
-use mathlib.Core.Path.{_≡_, refl, ap, sym, _∙_, subst}
-use Prim.Native.Nat.{ℕ, suc, _*_, _^_, _<_, _≤_}
+use mathlib.Core.Path.{_≡_, refl, sym, subst}
+use Prim.Native.Nat.{_*_, _^_, _<_, _≤_}
 use native.Mathlib.Omega.{arith}
 use lib.Dec.{T, le→leb, lt→ltb}
 use lib.IntN.{ℤ, pos, negsuc, _*ℤ_}
 use lib.Ieee as Ieee
 use lib.Ieee.{binary64, ofBits, ofInt, inFloat}
 use mir.Syntax.{w64}
-use mir.Val.{SFits, toZ, ofZ}
+use mir.Val.{toZ, ofZ}
 use Rattle.whole.specs.Whole.{∣_∣}
 use Rattle.whole.proofs.Linear.{back, abs-mul≤}
 use Rattle.whole.proofs.Machine.{M, var, lit, _⊠_, ok, is}

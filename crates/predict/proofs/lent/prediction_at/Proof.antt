@@ -1,19 +1,17 @@
 -- `predict::prediction_at` meets its contract.
 use mathlib.Core.Path.{_≡_, refl, sym, ap, ap₂, subst, _∙_}
-use mathlib.Core.Bool.{true, false}
-use mathlib.Core.List.{List, [], _∷_}
+use mathlib.Core.Bool.{true}
+use mathlib.Core.List.{List, _∷_}
 use Prim.Native.Nat.{ℕ, _+_, _*_, _/_, _-_, _^_, _≤_, _<_}
 use native.Mathlib.Omega.{arith}
-use borrow.Author.Needs.{needs}
 use lib.ListN.{length, getD, drop}
-use lib.IntN.{ℤ, pos, _+ℤ_, _-ℤ_, _*ℤ_}
+use lib.IntN.{ℤ, pos, _+ℤ_, _*ℤ_}
 use mir.Syntax.{w64}
 use mir.Val.{SFits, toZ, ofZ}
 use mir.ValLaws.{toZ-pos}
 use Rattle.whole.specs.Whole.{P, ∣_∣, R}
 use Rattle.whole.proofs.Linear.{back, abs-fits, abs-sub}
 use Rattle.whole.proofs.Quote.{⟨_⟩, _⊕_, _⊝_, by≡}
-use Rattle.track.specs.declared.Number.{Number}
 use Rattle.predict.specs.Lent.{Lent, lentOf, segmentOk, soundFrom, answerAt, predicted}
 use Rattle.predict.specs.Ends.{reach}
 use Rattle.predict.proofs.Numbers.{lentAt, lentOf-more, lentOf-none, Good, good, sound-head, covered, passed}

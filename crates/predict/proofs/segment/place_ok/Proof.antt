@@ -1,6 +1,6 @@
 -- `predict::place_ok` meets its contract.
-use mathlib.Core.Path.{_≡_, refl, sym, ap, ap₂, subst, _∙_}
-use mathlib.Core.Bool.{Bool, true, false, _&&_}
+use mathlib.Core.Path.{_≡_, sym, ap, ap₂, subst, _∙_}
+use mathlib.Core.Bool.{_&&_}
 use Prim.Native.Nat.{ℕ, _+_, _≤_}
 use native.Mathlib.Omega.{arith}
 use borrow.Author.Needs.{needs}
@@ -10,7 +10,6 @@ use lib.Signed.{leZ}
 use mir.Syntax.{w64}
 use mir.Val.{SFits, toZ, ofZ}
 use mir.ValLaws.{toZ-pos}
-use Rattle.whole.specs.Whole.{P, N, ∣_∣}
 use Rattle.whole.proofs.Linear.{back, abs-fits, abs-sub}
 use Rattle.whole.proofs.Quote.{⟨_⟩, #, _⊕_, _⊝_, bal}
 use Rattle.track.proofs.Each.{no-and}

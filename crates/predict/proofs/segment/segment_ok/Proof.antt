@@ -1,15 +1,12 @@
 -- `predict::segment_ok` meets its contract.
-use mathlib.Core.Path.{_≡_, refl, sym, ap, ap₂, subst, _∙_}
-use mathlib.Core.Bool.{Bool, true, false, _&&_}
+use mathlib.Core.Path.{_≡_, sym, ap, ap₂, subst, _∙_}
+use mathlib.Core.Bool.{true, false, _&&_}
 use Prim.Native.Nat.{ℕ, _≤_}
-use native.Mathlib.Omega.{arith}
 use borrow.Author.Needs.{needs}
 use borrow.Author.Tests.{not-true, not-false, leb-true}
 use lib.Dec.{leb}
 use lib.IntN.{ℤ, pos, _+ℤ_}
-use lib.Signed.{leZ, _≤ℤ_, leZ-yes}
-use mir.Syntax.{w64}
-use mir.Val.{toZ, ofZ}
+use lib.Signed.{leZ, _≤ℤ_}
 use Rattle.whole.specs.Whole.{∣_∣}
 use Rattle.whole.proofs.Linear.{back, and-true, leZ-true, ⇒le}
 use Rattle.track.proofs.Each.{no-and, and-no, and-both}

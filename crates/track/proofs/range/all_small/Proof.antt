@@ -1,17 +1,16 @@
 -- `track::all_small` meets its contract.
-use mathlib.Core.Path.{_≡_, refl, sym, ap, subst, _∙_}
-use mathlib.Core.Bool.{true}
-use Prim.Native.Nat.{ℕ, _≤_, _<_, _-_}
+use mathlib.Core.Path.{_≡_, refl, sym, ap, _∙_}
+use mathlib.Core.Bool.{true, _&&_}
+use Prim.Native.Nat.{ℕ, _≤_, _-_}
 use native.Mathlib.Omega.{arith}
-use borrow.Author.Needs.{needs}
-use borrow.Author.Tests.{lt-leb, le-leb}
+use borrow.Author.Tests.{not-true, not-false}
 use lib.ListN.{length}
-use lib.IntN.{ℤ}
-use Rattle.whole.specs.Whole.{∣_∣}
+use lib.IntN.{ℤ, pos, negsuc}
+use lib.Signed.{leZ}
 use Rattle.whole.proofs.Linear.{back}
 use Rattle.fit.specs.Line.{sample}
 use Rattle.track.specs.Answer.{each, smallAt}
-use Rattle.track.proofs.Each.{each-next, each-fails}
+use Rattle.track.proofs.Each.{each-next, each-fails, small-test}
 use Rattle.track.proofs.range.all_small.Statement.{statement}
 use Rattle.track.proofs.range.all_small.Tie as tie
 
@@ -31,17 +30,17 @@ mul-z c = omega arith
 shared-slice-copy-out-z : tie.Need-shared-slice-copy-out-z Inv-loop μ-loop
 shared-slice-copy-out-z c = omega arith
 
-size-requires : tie.Need-size-requires Inv-loop μ-loop
-size-requires c κs = tt
+in-range-requires : tie.Need-in-range-requires Inv-loop μ-loop
+in-range-requires c κs = tt
 
--- the size that is tested is the sample's
-says : (c : tie.After-size Inv-loop μ-loop) → let a = c .before .before .before in c .size .result ≡ ∣ sample (a .before .args .samples .now) (a .loop .i) ∣
-says c = let a = c .before .before .before in
-    c .size .ensures ∙ ap (λ (y : ℤ). ∣ y ∣) (back {z = sample (a .before .args .samples .now) (a .loop .i)} (record { sfits = c .before .z .given }))
+-- what the test says of the sample
+says : (c : tie.After-in-range Inv-loop μ-loop) → let a = c .before .before .before in c .in-range .result ≡ smallAt (a .before .args .samples .now) (a .loop .i)
+says c = let a = c .before .before .before in let z = sample (a .before .args .samples .now) (a .loop .i) in
+    c .in-range .ensures ∙ ap (λ (y : ℤ). leZ (negsuc 129_999_999_999) y && leZ y (pos 130_000_000_000)) (back {z = z} (record { sfits = c .before .z .given })) ∙ small-test z
 
 returns : tie.Need-returns Inv-loop μ-loop
 returns c = let a = c .before .before .before .before in let s = a .before .args .samples .now in
-    sym (each-fails (length s) (a .loop .i) (smallAt s) (c .before .before .before .loop-test .taken) (lt-leb _ _ (subst (λ (n : ℕ). 130_000_000_000 < n) (says (c .before)) (c .if1 .taken))))
+    sym (each-fails (length s) (a .loop .i) (smallAt s) (c .before .before .before .loop-test .taken) (sym (says (c .before)) ∙ not-true _ (c .if1 .taken)))
 
 add-i : tie.Need-add-i Inv-loop μ-loop
 add-i c = omega arith
@@ -51,7 +50,7 @@ loop-less c = omega arith
 
 loop-again : tie.Need-loop-again Inv-loop μ-loop
 loop-again c = let a = c .before .before .before .before in let s = a .before .args .samples .now in
-    (omega arith, each-next (a .loop .i) (smallAt s) (a .loop .inv .1) (le-leb _ _ (subst (λ (n : ℕ). n ≤ 130_000_000_000) (says (c .before)) (c .if1 .left))))
+    (omega arith, each-next (a .loop .i) (smallAt s) (a .loop .inv .1) (sym (says (c .before)) ∙ not-false _ (c .if1 .left)))
 
 returns-2 : tie.Need-returns-2 Inv-loop μ-loop
 returns-2 c = let a = c .before in let s = a .before .args .samples .now in let e : a .loop .i ≡ length s = omega arith in
@@ -66,7 +65,7 @@ all-small-spec =
     loop-holds
     mul-z
     shared-slice-copy-out-z
-    size-requires
+    in-range-requires
     returns
     add-i
     loop-less

@@ -1,7 +1,6 @@
--- `track::in_range` meets its contract.
-use mathlib.Core.Path.{_≡_, refl, sym, ap, _∙_}
+-- `track::call_in_range` meets its contract.
+use mathlib.Core.Path.{_≡_, sym, ap, _∙_}
 use mathlib.Core.Bool.{Bool, true, false, not, _&&_}
-use native.Mathlib.Omega.{arith}
 use borrow.Author.Needs.{needs}
 use borrow.Author.Tests.{lt-leb, le-leb}
 use mathlib.Core.List.{List}
@@ -14,8 +13,8 @@ use mir.Val.{toZ, ofZ}
 use Rattle.whole.proofs.Linear.{back}
 use Rattle.track.specs.Answer.{each, smallAt, inRange}
 use Rattle.track.proofs.Each.{and-no, no-and, not-below}
-use Rattle.track.proofs.range.in_range.Statement.{statement}
-use Rattle.track.proofs.range.in_range.Tie as tie
+use Rattle.track.proofs.range.call_in_range.Statement.{statement}
+use Rattle.track.proofs.range.call_in_range.Tie as tie
 
 -- five tests, of which one fails, or of which all but the last hold
 module _ (a b c d e : Bool) where
@@ -83,6 +82,6 @@ returns-5 c = let k = c .before .before in let x = k .before .before .before .ar
     c .all-small .ensures
     ∙ rest (x .samples .now) (x .tolerance) (le-leb _ _ (k .before .before .if1 .left)) (le-leb _ _ (k .before .if2 .left)) (low-is (k .before) false (k .if3 .left)) (high-is k false (c .before .if4 .left))
 
-pub in-range-spec : {M : Type 1} → statement M
-in-range-spec =
+pub call-in-range-spec : {M : Type 1} → statement M
+call-in-range-spec =
     tie.close (tie.spec returns returns-2 returns-3 returns-4 all-small-requires returns-5)

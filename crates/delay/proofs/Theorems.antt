@@ -1,0 +1,232 @@
+-- What is proved of the outcomes of the calls `orientation`, `delay` and `samples`. Assumes nothing.
+use mathlib.Core.Path.{_≡_, refl, sym, ap, _∙_}
+use mathlib.Core.Bool.{Bool, true, false, _&&_, cond}
+use mathlib.Core.List.{List, [], _∷_, _++_}
+use Prim.Native.Nat.{ℕ, zero, suc, _≤_, _<_}
+use native.Mathlib.Omega.{arith}
+use lib.Dec.{eqb, leb, ltb}
+use borrow.Author.Tests.{ne-eqb}
+use lib.ListN.{length, getD, drop}
+use lib.IntN.{ℤ, pos, negℤ}
+use Rattle.whole.specs.Whole.{∣_∣}
+use Rattle.whole.proofs.Linear.{and-true}
+use Rattle.earth.specs.declared.NumberAnswer.{NumberAnswer}
+use Rattle.earth.specs.declared.time.Epoch.{Epoch}
+use Rattle.earth.specs.Calls.{epochOf}
+use Rattle.earth.specs.Ranges.{InMs, dayOk, msOk}
+use Rattle.sections.specs.File.{contentsRight, rangesRight, idsRight, daysRight, refusalOf, countOf}
+use Rattle.sections.specs.Each.{allBelow, firstNot}
+use Rattle.sections.proofs.Search.{below-each, not-all, first-fails}
+use Rattle.session.specs.declared.Pass.{Pass}
+use Rattle.session.specs.Records.{stationBy, sourceBy, passOf}
+use Rattle.delay.specs.declared.EarthAnswer.{EarthAnswer}
+use Rattle.delay.specs.Calls.{lowest, unless, idOk, hasId, allThere, number, noNumber, delayIn, delayNumber, delayOutcome, orientationOutcome, samplesOf, allCovered, firstValues, sampleIn, samplesNumber, samplesOutcome, samplesRoom}
+use Rattle.delay.specs.Sessions.{covers, earthIn, sampleEpoch}
+use Rattle.delay.proofs.Accepted.{station-by-in}
+use Rattle.delay.proofs.Covered.{earth-in-pole}
+use Rattle.delay.proofs.Epochs.{sample-ms}
+use Rattle.delay.proofs.Lowest.{lower-zero, unless-zero, days-first, six-fails}
+use Rattle.delay.proofs.Ranges.{asked-in}
+use Rattle.delay.proofs.Sizes.{between-size}
+use Rattle.delay.proofs.Swapped.{between-neg, between-same}
+use Rattle.delay.proofs.Written.{sample-at, fails-at}
+
+-- ---- one value: any two results that a promise allows are equal
+pub orientation-one : (s : List ℕ) (day ms : ℤ) (a b : EarthAnswer) → a ≡ orientationOutcome s day ms → b ≡ orientationOutcome s day ms → a ≡ b
+orientation-one s day ms a b p q = p ∙ sym q
+
+pub delay-one : (s : List ℕ) (i j r day ms : ℤ) (a b : NumberAnswer) → a ≡ delayOutcome s i j r day ms → b ≡ delayOutcome s i j r day ms → a ≡ b
+delay-one s i j r day ms a b p q = p ∙ sym q
+
+pub samples-one : (s : List ℕ) (i : ℕ) (room : List ℤ) (a b : NumberAnswer) (x y : List ℤ) → a ≡ samplesOutcome s i (length room) → x ≡ samplesRoom s i room → b ≡ samplesOutcome s i (length room) → y ≡ samplesRoom s i room → (a ≡ b) × (x ≡ y)
+samples-one s i room a b x y p q u v = (p ∙ sym u, q ∙ sym v)
+
+-- ---- exchanging the stations
+and-swap : (a b c : Bool) → (a && (b && c)) ≡ (b && (a && c))
+and-swap true true c = refl
+and-swap true false c = refl
+and-swap false true c = refl
+and-swap false false c = refl
+
+pub delay-number-swap : (s : List ℕ) (a b r day ms : ℤ) → delayNumber s b a r day ms ≡ delayNumber s a b r day ms
+unfolding delayNumber
+delay-number-swap s a b r day ms =
+    ap (λ (t : Bool). lowest (refusalOf s ∷ unless t 2 ∷ unless (allThere s b a r) 5 ∷ unless (covers s day) 6 ∷ [])) (and-swap (idOk b) (idOk a) (idOk r && (dayOk day && msOk ms)))
+    ∙ ap (λ (t : Bool). lowest (refusalOf s ∷ unless (idOk a && (idOk b && (idOk r && (dayOk day && msOk ms)))) 2 ∷ unless t 5 ∷ unless (covers s day) 6 ∷ [])) (and-swap (hasId s 0 b) (hasId s 0 a) (hasId s 1 r))
+
+pub delay-in-swap : (s : List ℕ) (a b r : ℤ) (e : Epoch) → delayIn s b a r e ≡ negℤ (delayIn s a b r e)
+unfolding delayIn
+delay-in-swap s a b r e = between-neg (stationBy s a) (stationBy s b) (sourceBy s r) (earthIn s e)
+
+answer-swap : (t : Bool) (n : ℕ) (v w : ℤ) → w ≡ negℤ v → (cond t (number w) (noNumber n) .refusal ≡ cond t (number v) (noNumber n) .refusal) × (cond t (number w) (noNumber n) .value ≡ negℤ (cond t (number v) (noNumber n) .value))
+answer-swap true n v w e = (refl, e)
+answer-swap false n v w e = (refl, refl)
+
+-- the same number, and the value negated
+pub delay-swap : (s : List ℕ) (a b r day ms : ℤ) → (delayOutcome s b a r day ms .refusal ≡ delayOutcome s a b r day ms .refusal) × (delayOutcome s b a r day ms .value ≡ negℤ (delayOutcome s a b r day ms .value))
+unfolding delayOutcome
+delay-swap s a b r day ms =
+    rw (delay-number-swap s a b r day ms)
+    (answer-swap (eqb (delayNumber s a b r day ms) 0) (delayNumber s a b r day ms) (delayIn s a b r (epochOf day ms)) (delayIn s b a r (epochOf day ms)) (delay-in-swap s a b r (epochOf day ms)))
+
+-- one station twice gives 0
+answer-zero : (t : Bool) (n : ℕ) (v : ℤ) → v ≡ pos 0 → cond t (number v) (noNumber n) .value ≡ pos 0
+answer-zero true n v e = e
+answer-zero false n v e = refl
+
+pub delay-same : (s : List ℕ) (a r day ms : ℤ) → delayOutcome s a a r day ms .value ≡ pos 0
+unfolding delayOutcome delayIn
+delay-same s a r day ms =
+    answer-zero (eqb (delayNumber s a a r day ms) 0) (delayNumber s a a r day ms) (delayIn s a a r (epochOf day ms)) (between-same (stationBy s a) (sourceBy s r) (earthIn s (epochOf day ms)))
+
+-- the same of a pass: with its stations exchanged each sample is negated
+abbrev pub exchanged : Pass → Pass
+exchanged p =
+    record {
+      refusal = p .refusal;
+      station1 = p .station2;
+      station2 = p .station1;
+      source = p .source;
+      mjd = p .mjd;
+      ms = p .ms;
+      step = p .step;
+      samples = p .samples;
+      tolerance = p .tolerance;
+    }
+
+pub sample-swap : (s : List ℕ) (p : Pass) (j : ℕ) → sampleIn s (exchanged p) j ≡ negℤ (sampleIn s p j)
+unfolding sampleIn sampleEpoch
+sample-swap s p j = delay-in-swap s (p .station1) (p .station2) (p .source) (sampleEpoch p j)
+
+-- ---- "No delay is beyond 130,000,000,000 ps."
+
+-- a delay of an accepted file that covers the epoch and has the stations
+pub delay-in-size : (s : List ℕ) (a b r : ℤ) (e : Epoch) → refusalOf s ≡ 0 → allThere s a b r ≡ true → covers s (e .day) ≡ true → InMs (e .ms) → ∣ delayIn s a b r e ∣ ≤ 130000000000
+unfolding delayIn
+delay-in-size s a b r e h t c m =
+    let p = and-true (hasId s 0 a) (hasId s 0 b && hasId s 1 r) t in
+    let q = and-true (hasId s 0 b) (hasId s 1 r) (p .1) in
+    between-size (stationBy s a) (stationBy s b) (sourceBy s r) (earthIn s e) (station-by-in s h a (p .0)) (station-by-in s h b (q .0)) (earth-in-pole s e h c m)
+
+-- what it says that a call of `delay` is not refused
+delay-clear : (s : List ℕ) (a b r day ms : ℤ) → delayNumber s a b r day ms ≡ 0 → (refusalOf s ≡ 0) × (allThere s a b r ≡ true) × (covers s day ≡ true) × InMs ms
+unfolding delayNumber
+delay-clear s a b r day ms e =
+    let o = idOk a && (idOk b && (idOk r && (dayOk day && msOk ms))) in
+    let f = lower-zero (refusalOf s) (lowest (unless o 2 ∷ unless (allThere s a b r) 5 ∷ unless (covers s day) 6 ∷ [])) e in
+    let g = lower-zero (unless o 2) (lowest (unless (allThere s a b r) 5 ∷ unless (covers s day) 6 ∷ [])) (f .1) in
+    let k = lower-zero (unless (allThere s a b r) 5) (lowest (unless (covers s day) 6 ∷ [])) (g .1) in
+    let l = lower-zero (unless (covers s day) 6) 0 (k .1) in
+    (f .0, unless-zero (allThere s a b r) 4 (k .0), unless-zero (covers s day) 5 (l .0), asked-in (idOk a) (idOk b) (idOk r) day ms (unless-zero o 1 (g .0)) .1)
+
+answer-size : (n : ℕ) (v : ℤ) (k : ℕ) → (n ≡ 0 → ∣ v ∣ ≤ k) → ∣ cond (eqb n 0) (number v) (noNumber n) .value ∣ ≤ k
+answer-size zero v k h = h refl
+answer-size (suc n) v k h = rw (ne-eqb (suc n) 0 (λ e. omega arith)) (omega arith)
+
+pub delay-bounded : (s : List ℕ) (a b r day ms : ℤ) → ∣ delayOutcome s a b r day ms .value ∣ ≤ 130000000000
+unfolding delayOutcome
+delay-bounded s a b r day ms =
+    answer-size (delayNumber s a b r day ms) (delayIn s a b r (epochOf day ms)) 130000000000
+    (λ e. let c = delay-clear s a b r day ms e in delay-in-size s a b r (epochOf day ms) (c .0) (c .1) (c .2) (c .3))
+
+-- a file's number is at most 4
+most-of : (a b c d : Bool) → cond a (cond b (cond c (cond d 0 4) 3) 2) 1 ≤ 4
+most-of true true true true = omega arith
+most-of true true true false = omega arith
+most-of true true false d = omega arith
+most-of true false c d = omega arith
+most-of false b c d = omega arith
+
+refusal-most : (s : List ℕ) → refusalOf s ≤ 4
+unfolding refusalOf
+refusal-most s = most-of (contentsRight s) (rangesRight s) (idsRight s) (daysRight s)
+
+-- ---- a pass: what it says that its samples are given
+
+pub record Given (s : List ℕ) (i n : ℕ) : Type 0 where
+  pub accepted : refusalOf s ≡ 0
+  pub there : ltb i (countOf s 3) ≡ true
+  pub named : allThere s (passOf s i .station1) (passOf s i .station2) (passOf s i .source) ≡ true
+  pub covered : allCovered s (passOf s i) ≡ true
+  pub enough : leb (samplesOf (passOf s i)) n ≡ true
+
+pub samples-clear : (s : List ℕ) (i n : ℕ) → samplesNumber s i n ≡ 0 → Given s i n
+unfolding samplesNumber
+samples-clear s i n e =
+    let p = passOf s i in
+    let t = allThere s (p .station1) (p .station2) (p .source) in
+    let c = allCovered s p in
+    let m = leb (samplesOf p) n in
+    let f = lower-zero (refusalOf s) (lowest (unless (ltb i (countOf s 3)) 5 ∷ unless t 5 ∷ unless c 6 ∷ unless m 7 ∷ [])) e in
+    let g = lower-zero (unless (ltb i (countOf s 3)) 5) (lowest (unless t 5 ∷ unless c 6 ∷ unless m 7 ∷ [])) (f .1) in
+    let k = lower-zero (unless t 5) (lowest (unless c 6 ∷ unless m 7 ∷ [])) (g .1) in
+    let l = lower-zero (unless c 6) (lowest (unless m 7 ∷ [])) (k .1) in
+    let o = lower-zero (unless m 7) 0 (l .1) in
+    record {
+      accepted = f .0;
+      there = unless-zero (ltb i (countOf s 3)) 4 (g .0);
+      named = unless-zero t 4 (k .0);
+      covered = unless-zero c 5 (l .0);
+      enough = unless-zero m 6 (o .0);
+    }
+
+-- every sample that is given lies within ±130,000,000,000
+pub sample-bounded : (s : List ℕ) (i n j : ℕ) → samplesNumber s i n ≡ 0 → j < samplesOf (passOf s i) → ∣ sampleIn s (passOf s i) j ∣ ≤ 130000000000
+unfolding sampleIn allCovered
+sample-bounded s i n j e h =
+    let g = samples-clear s i n e in
+    let p = passOf s i in
+    delay-in-size s (p .station1) (p .station2) (p .source) (sampleEpoch p j) (g .accepted) (g .named) (below-each (samplesOf p) j (λ (x : ℕ). covers s (sampleEpoch p x .day)) h (g .covered)) (sample-ms p j)
+
+-- sample j of the room is the delay at the pass's epoch with j·step added
+pub room-sample : (s : List ℕ) (i j : ℕ) (room : List ℤ) → samplesNumber s i (length room) ≡ 0 → j < samplesOf (passOf s i) → getD (samplesRoom s i room) j (pos 0) ≡ delayIn s (passOf s i .station1) (passOf s i .station2) (passOf s i .source) (sampleEpoch (passOf s i) j)
+unfolding samplesRoom sampleIn
+room-sample s i j room e h = rw e (sample-at (samplesOf (passOf s i)) (sampleIn s (passOf s i)) (drop (samplesOf (passOf s i)) room) j h)
+
+-- the number is 6 exactly if some sample's epoch lacks a record, of a pass that is there and names what is there
+pub six-if : (s : List ℕ) (i n : ℕ) → refusalOf s ≡ 0 → ltb i (countOf s 3) ≡ true → allThere s (passOf s i .station1) (passOf s i .station2) (passOf s i .source) ≡ true → (j : ℕ) → j < samplesOf (passOf s i) → covers s (sampleEpoch (passOf s i) j .day) ≡ false → samplesNumber s i n ≡ 6
+unfolding samplesNumber allCovered
+six-if s i n a t m j h c =
+    let p = passOf s i in
+    rw (a, t, m, fails-at (samplesOf p) j (λ (x : ℕ). covers s (sampleEpoch p x .day)) h c) (days-first (leb (samplesOf p) n))
+
+pub record Lacking (s : List ℕ) (p : Pass) : Type 0 where
+  pub sample : ℕ
+  pub within : sample < samplesOf p
+  pub lacks : covers s (sampleEpoch p sample .day) ≡ false
+
+pub six-only : (s : List ℕ) (i n : ℕ) → samplesNumber s i n ≡ 6 → Lacking s (passOf s i)
+unfolding samplesNumber allCovered
+six-only s i n e =
+    let p = passOf s i in
+    let q : ℕ → Bool = λ (x : ℕ). covers s (sampleEpoch p x .day) in
+    let c = six-fails (refusalOf s) (ltb i (countOf s 3)) (allThere s (p .station1) (p .station2) (p .source)) (allBelow (samplesOf p) q) (leb (samplesOf p) n) (refusal-most s) e in
+    let l = not-all (samplesOf p) q c in
+    record { sample = firstNot (samplesOf p) q; within = l; lacks = first-fails (samplesOf p) q l }
+
+-- ---- two passes of a file that differ in the order of their stations alone
+
+covered-swap : (s : List ℕ) (p : Pass) → allCovered s (exchanged p) ≡ allCovered s p
+unfolding allCovered sampleEpoch
+covered-swap s p = refl
+
+module _ (s : List ℕ) (i k : ℕ) (e : passOf s k ≡ exchanged (passOf s i)) (l : ltb k (countOf s 3) ≡ ltb i (countOf s 3)) where
+  -- the same number
+  pub pass-number-swap : (n : ℕ) → samplesNumber s k n ≡ samplesNumber s i n
+  unfolding samplesNumber
+  pass-number-swap n =
+      let p = passOf s i in
+      let a = hasId s 0 (p .station1) in
+      let b = hasId s 0 (p .station2) in
+      let r = hasId s 1 (p .source) in
+      rw (e, l, covered-swap s p)
+      (ap (λ (t : Bool). lowest (refusalOf s ∷ unless (ltb i (countOf s 3)) 5 ∷ unless t 5 ∷ unless (allCovered s p) 6 ∷ unless (leb (samplesOf p) n) 7 ∷ [])) (and-swap b a r))
+
+  -- and each number of the room negated
+  pub pass-swap : (j : ℕ) (room other : List ℤ) → samplesNumber s i (length room) ≡ 0 → samplesNumber s k (length other) ≡ 0 → j < samplesOf (passOf s i) → getD (samplesRoom s k other) j (pos 0) ≡ negℤ (getD (samplesRoom s i room) j (pos 0))
+  unfolding sampleIn
+  pass-swap j room other g h m =
+      room-sample s k j other h (rw e m)
+      ∙ ap (λ (p : Pass). sampleIn s p j) e
+      ∙ sample-swap s (passOf s i) j
+      ∙ ap negℤ (sym (room-sample s i j room g m))
