@@ -106,6 +106,12 @@ struct fringe_place {
 	int64_t number, section, record, field;
 };
 
+/* as used at an epoch: the pole, UT1-UTC with the tide, and ERA in ticks */
+struct fringe_earth {
+	int64_t refusal, x, y, ut1_utc;
+	uint32_t tick;
+};
+
 /* two doubles of one prediction */
 struct fringe_record {
 	double seconds, cycles;
@@ -155,6 +161,28 @@ struct fringe_station fringe_station_at(const uint8_t *file, size_t n, uint64_t 
 struct fringe_source fringe_source_at(const uint8_t *file, size_t n, uint64_t index);
 struct fringe_day fringe_day_at(const uint8_t *file, size_t n, uint64_t index);
 struct fringe_pass fringe_pass_at(const uint8_t *file, size_t n, uint64_t index);
+
+/*
+ * Writes the session file of four lists of numbers, record after record in the fields' order above, to the start of the room, and answers the bytes
+ * written: 14,952 are always enough. Refusals: 1 where a list is no whole number of records, or a count is outside its limits; 2 to 4 as fringe_check
+ * would give them for the file; 7 where the room is too short.
+ */
+struct fringe_number fringe_write(const int64_t *stations, size_t stations_length, const int64_t *sources, size_t sources_length, const int64_t *days,
+				  size_t days_length, const int64_t *passes, size_t passes_length, uint8_t *room, size_t room_length);
+
+/* ---- Delays of the file's stations and sources */
+
+/* The pole, UT1-UTC with the tide, and ERA, as used at an epoch. Refusals: 1 to 4, 2 also for the epoch, and 6. */
+struct fringe_earth fringe_orientation(const uint8_t *file, size_t n, int64_t day, int64_t ms);
+
+/* The delay at an epoch between two stations, by their ids, for a source, by its id: picoseconds. Refusals: 1 to 4, 2 also for ids and epoch, 5, 6. */
+struct fringe_number fringe_delay(const uint8_t *file, size_t n, int64_t station1, int64_t station2, int64_t source, int64_t day, int64_t ms);
+
+/*
+ * The delays of a pass's samples, by the pass's index, counted from 0: `m` numbers from `room` are lent. value: samples written; 4,096 are always enough.
+ * Refusals: 1 to 4; 5 where the pass, or a station or the source that it names, is not there; 6; 7.
+ */
+struct fringe_number fringe_samples(const uint8_t *file, size_t n, uint64_t pass, int64_t *room, size_t m);
 
 /* ---- Tracks */
 

@@ -98,6 +98,8 @@ int main(void)
 {
 	angles();
 	files();
+	writes();
+	delays();
 	tracks();
 	printf("%d passed, %d failed\n", passed, failed);
 	return failed > 0;

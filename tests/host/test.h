@@ -31,6 +31,8 @@ void holds(const char *what, const int64_t *numbers, size_t n);
 
 void angles(void);
 void files(void);
+void writes(void);
+void delays(void);
 void tracks(void);
 
 #endif

@@ -1,1 +1,2 @@
+pub mod PassTrack
 pub mod Starred

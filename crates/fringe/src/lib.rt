@@ -1,1 +1,24 @@
-// What reaches across the layers. specs/Starred.antt is the table of document 01's starred cases; proofs/Starred.antt shows that it holds.
+// What reaches across the layers: the track of a pass, which specs/PassTrack.antt defines, and the table of document 01's starred cases, specs/Starred.antt.
+use track::Number;
+use whole::sign::size;
+ghost use mathlib.Core.Path.{_≡_};
+ghost use Rattle.track.specs.Answer.{Outcome};
+ghost use Rattle.fringe.specs.PassTrack.{passOutcome};
+
+// Writes the track of a pass, counted from 0, to the start of the room, four numbers to a segment, and answers how many segments that is.
+pub fn pass_track(file: &[u8], pass: usize, room: &mut [i64]) -> Number
+    ensures { λ r. ⌜ _≡_ {A = Outcome} (record { answer = r; room = now (room .exit) }) (passOutcome (now (file .entry)) pass (now (room .entry))) ⌝ }
+{
+    let mut samples = [0i64; 4096];
+    let taken = delay::samples(file, pass, &mut samples);
+    let n = taken.refusal;
+    if 1 <= n {
+        return Number {
+            refusal: n,
+            value: 0,
+        };
+    }
+    let p = session::pass_at(file, pass);
+    let k = size(taken.value) as usize;
+    track::track(&samples[..k], p.tolerance, room)
+}

@@ -5,9 +5,11 @@ use session::Pass;
 use session::Place;
 use session::Source;
 use session::Station;
+use writer::Written;
 ghost use mathlib.Core.Path.{_≡_};
 ghost use Rattle.session.specs.Records.{checkOf, stationAt, sourceAt, dayAt, passAt};
 ghost use Rattle.session.specs.Fault.{faultOf};
+ghost use Rattle.writer.specs.Writing.{writtenOf, roomAfter};
 
 #[no_mangle]
 pub extern "C" fn fringe_check(file: &[u8]) -> Counts
@@ -49,4 +51,18 @@ pub extern "C" fn fringe_pass_at(file: &[u8], index: usize) -> Pass
     ensures { λ r. ⌜ r ≡ passAt (now (file .entry)) index ⌝ }
 {
     session::pass_at(file, index)
+}
+
+#[no_mangle]
+pub extern "C" fn fringe_write(
+    stations: &[i64],
+    sources: &[i64],
+    days: &[i64],
+    passes: &[i64],
+    room: &mut [u8],
+) -> Written
+    ensures { λ w. ⌜ (w ≡ writtenOf (now (stations .entry)) (now (sources .entry)) (now (days .entry)) (now (passes .entry)) (now (room .entry)))
+        × (now (room .exit) ≡ roomAfter (now (stations .entry)) (now (sources .entry)) (now (days .entry)) (now (passes .entry)) (now (room .entry))) ⌝ }
+{
+    writer::write(stations, sources, days, passes, room)
 }

@@ -1,0 +1,19 @@
+-- Document 01, 'Numbers to meet', the track program: the track of a pass of a file, from its samples, with its tolerance.
+use Prim.Native.Nat.{ℕ}
+use mathlib.Core.Bool.{cond}
+use mathlib.Core.List.{List}
+use lib.Dec.{eqb}
+use lib.IntN.{ℤ}
+use Rattle.session.specs.Records.{passOf, passAt}
+use Rattle.delay.specs.Calls.{samplesOf, sampleIn, firstValues, samplesNumber}
+use Rattle.track.specs.Answer.{Outcome, outcome, refused}
+
+-- the samples of pass i
+unfoldable pub passSamples : List ℕ → ℕ → List ℤ
+passSamples s i = firstValues (samplesOf (passOf s i)) (sampleIn s (passOf s i))
+
+-- the refusal of its samples, for which there is room for 4,096, or else what `track` answers for them, with the room after the call
+unfoldable pub passOutcome : List ℕ → ℕ → List ℤ → Outcome
+passOutcome s i room =
+    let n = samplesNumber s i 4096 in
+    cond (eqb n 0) (outcome (passSamples s i) (passAt s i .tolerance) room) (refused n room)

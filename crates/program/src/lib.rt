@@ -1,0 +1,210 @@
+// The program of document 01: a session file on standard input, its tracks on standard output.
+use fringe::pass_track;
+use session::Place;
+use whole::sign::size;
+
+// ---- lines on standard output
+
+// A number in decimal.
+fn decimal(to: i32, z: i64) {
+    if z < 0 {
+        io::write_all(to, b"-");
+    }
+    io::print_decimal(to, size(z));
+}
+
+// "A refused file prints `refused` and the number; a refused pass prints them in place of its lines".
+fn refused(n: i64) {
+    io::write_all(1, b"refused ");
+    decimal(1, n);
+    io::write_all(1, b"\n");
+}
+
+// "pass index and segment count"
+fn pass_line(i: usize, segments: i64) {
+    io::write_all(1, b"pass ");
+    io::print_decimal(1, i as u64);
+    io::write_all(1, b" ");
+    decimal(1, segments);
+    io::write_all(1, b"\n");
+}
+
+// The four numbers of a segment.
+fn segment_line(first: i64, count: i64, offset: i64, rate: i64) {
+    decimal(1, first);
+    io::write_all(1, b" ");
+    decimal(1, count);
+    io::write_all(1, b" ");
+    decimal(1, offset);
+    io::write_all(1, b" ");
+    decimal(1, rate);
+    io::write_all(1, b"\n");
+}
+
+// "then one line a segment": the first m segments of the room.
+fn segment_lines(room: &[i64], m: i64) {
+    let places = room.len() / 4;
+    let count = size(m) as usize;
+    let mut i: usize = 0;
+    while i < places {
+        if i >= count {
+            return;
+        }
+        let b = 4 * i;
+        segment_line(room[b], room[b + 1], room[b + 2], room[b + 3]);
+        i += 1;
+    }
+}
+
+// ---- what a refusal means, in plain words, on standard error
+
+// What the number says, of a file or of a pass.
+fn meaning(n: i64) {
+    if n == 1 {
+        io::write_all(
+            2,
+            b"the file is too long, or its contents table or its length is not as it must be",
+        );
+    } else if n == 2 {
+        io::write_all(2, b"a field is outside its range");
+    } else if n == 3 {
+        io::write_all(2, b"the ids do not rise");
+    } else if n == 4 {
+        io::write_all(2, b"the orientation days are not consecutive");
+    } else if n == 5 {
+        io::write_all(
+            2,
+            b"a station or the source that it names is not in the file",
+        );
+    } else if n == 6 {
+        io::write_all(
+            2,
+            b"the file lacks the orientation record of a sample's day or of the next day",
+        );
+    } else {
+        io::write_all(2, b"no track fits");
+    }
+}
+
+// The names of the sections.
+fn section(kind: i64) {
+    if kind == 1 {
+        io::write_all(2, b"stations");
+    } else if kind == 2 {
+        io::write_all(2, b"sources");
+    } else if kind == 3 {
+        io::write_all(2, b"orientation days");
+    } else {
+        io::write_all(2, b"passes");
+    }
+}
+
+fn where_in_table(field: i64) {
+    if field < 13 {
+        io::write_all(2, b"number ");
+        decimal(2, field);
+        io::write_all(2, b" of the contents table, counted from 0");
+    } else {
+        io::write_all(2, b"the length of the file");
+    }
+}
+
+fn where_in_section(p: Place) {
+    io::write_all(2, b"section ");
+    decimal(2, p.section);
+    io::write_all(2, b" (");
+    section(p.section);
+    io::write_all(2, b"), record ");
+    decimal(2, p.record);
+    io::write_all(2, b", field ");
+    decimal(2, p.field);
+    io::write_all(2, b", both counted from 0");
+}
+
+// What a file's refusal means, and where it arises.
+fn explain_file(file: &[u8]) {
+    let p = session::fault(file);
+    io::write_all(2, b"refused ");
+    decimal(2, p.number);
+    io::write_all(2, b": ");
+    meaning(p.number);
+    io::write_all(2, b"; see ");
+    if p.number == 1 {
+        where_in_table(p.field);
+    } else {
+        where_in_section(p);
+    }
+    io::write_all(2, b"\n");
+}
+
+fn explain_pass(i: usize, n: i64) {
+    io::write_all(2, b"pass ");
+    io::print_decimal(2, i as u64);
+    io::write_all(2, b" refused ");
+    decimal(2, n);
+    io::write_all(2, b": ");
+    meaning(n);
+    io::write_all(2, b"\n");
+}
+
+// What each pass's refusal means; 0 is none.
+fn explain_passes(refusals: &[i64; 64]) {
+    let mut i: usize = 0;
+    while i < 64 {
+        let n = refusals[i];
+        if n != 0 {
+            explain_pass(i, n);
+        }
+        i += 1;
+    }
+}
+
+// ---- the work
+
+// Prints the track of a pass, or its refusal, and answers the refusal's number. 2,048 segments always fit.
+fn print_pass(file: &[u8], i: usize) -> i64 {
+    let mut room = [0i64; 8192];
+    let r = pass_track(file, i, &mut room);
+    let n = r.refusal;
+    if n != 0 {
+        refused(n);
+        return n;
+    }
+    let m = r.value;
+    pass_line(i, m);
+    segment_lines(&room, m);
+    0
+}
+
+// Prints each pass in turn, and keeps the refusals' numbers.
+fn print_passes(file: &[u8], passes: usize, refusals: &mut [i64; 64]) {
+    let mut i: usize = 0;
+    while i < passes {
+        let n = print_pass(file, i);
+        if i < 64 {
+            refusals[i] = n;
+        }
+        i += 1;
+    }
+}
+
+// Prints the tracks of a file's passes, or the file's refusal; then says on standard error what was refused, and why.
+fn print_session(file: &[u8]) {
+    let c = session::check(file);
+    if c.refusal != 0 {
+        refused(c.refusal);
+        explain_file(file);
+        return;
+    }
+    let mut refusals = [0i64; 64];
+    let passes = size(c.passes) as usize;
+    print_passes(file, passes, &mut refusals);
+    explain_passes(&refusals);
+}
+
+// A byte more than a file may have is read, so that a longer input is seen to be too long.
+pub fn run() {
+    let mut buffer = [0u8; 65537];
+    let n = io::read_full(0, &mut buffer);
+    print_session(&buffer[..n]);
+}
