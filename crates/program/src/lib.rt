@@ -1,4 +1,8 @@
 // The program of document 01: a session file on standard input, its tracks on standard output.
+ghost use mathlib.Core.Path.{_≡_};
+ghost use Prim.Native.Nat.{_≤_};
+ghost use lib.ListN.{length, take};
+ghost use Rattle.session.specs.Records.{checkOf};
 use fringe::pass_track;
 use session::Place;
 use whole::sign::size;
@@ -188,23 +192,39 @@ fn print_passes(file: &[u8], passes: usize, refusals: &mut [i64; 64]) {
     }
 }
 
-// Prints the tracks of a file's passes, or the file's refusal; then says on standard error what was refused, and why.
-fn print_session(file: &[u8]) {
+// Prints the tracks of a file's passes, or the file's refusal; then says on standard error what was refused, and why. Answers the file's number.
+fn print_session(file: &[u8]) -> i64
+    ensures { λ r. ⌜ r ≡ checkOf (now (file .entry)) .refusal ⌝ }
+{
     let c = session::check(file);
-    if c.refusal != 0 {
-        refused(c.refusal);
+    let n = c.refusal;
+    if n != 0 {
+        refused(n);
         explain_file(file);
-        return;
+        return n;
     }
     let mut refusals = [0i64; 64];
     let passes = size(c.passes) as usize;
     print_passes(file, passes, &mut refusals);
     explain_passes(&refusals);
+    n
 }
 
-// A byte more than a file may have is read, so that a longer input is seen to be too long.
-pub fn run() {
-    let mut buffer = [0u8; 65537];
-    let n = io::read_full(0, &mut buffer);
-    print_session(&buffer[..n]);
+// How many bytes were read to the start of a buffer, and the number that `check` gives to them.
+pub struct Ran {
+    pub bytes: usize,
+    pub refusal: i64,
+}
+
+// Reads a session file from standard input to the buffer, as far as it goes, and prints its tracks. The buffer has a byte more than a file may have, so
+// that a longer input is seen to be too long.
+pub fn run(buffer: &mut [u8]) -> Ran
+    ensures { λ r. ⌜ (r .bytes ≤ length (now (buffer .exit))) × (r .refusal ≡ checkOf (take (r .bytes) (now (buffer .exit))) .refusal) ⌝ }
+{
+    let n = io::read_full(0, buffer);
+    let refusal = print_session(&buffer[..n]);
+    Ran {
+        bytes: n,
+        refusal: refusal,
+    }
 }

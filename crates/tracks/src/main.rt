@@ -1,3 +1,4 @@
 fn main() {
-    program::run();
+    let mut buffer = [0u8; 65537];
+    program::run(&mut buffer);
 }
