@@ -9,7 +9,7 @@ use borrow.Author.Tests.{ltb-true}
 use lib.Dec.{ltb, lit≤}
 use lib.IntN.{ℤ, pos, negℤ}
 use Rattle.whole.specs.Whole.{P, N, ∣_∣}
-use Rattle.whole.proofs.Linear.{In}
+use Rattle.whole.specs.Ranges.{In}
 use Rattle.earth.specs.Ranges.{InDay}
 use Rattle.sections.specs.File.{refusalOf, countOf, fieldAt}
 use Rattle.session.specs.declared.Station.{Station}

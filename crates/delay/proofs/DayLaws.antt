@@ -7,7 +7,8 @@ use lib.Dec.{lit≤}
 use lib.IntN.{ℤ, pos, negℤ, _+ℤ_, _-ℤ_, _*ℤ_}
 use lib.Signed.{_≤ℤ_}
 use Rattle.whole.specs.Whole.{P, N, ∣_∣, line, floorZ}
-use Rattle.whole.proofs.Linear.{zarith, In, parts-le, abs-add, abs-sub, le-parts, in-le}
+use Rattle.whole.specs.Ranges.{In}
+use Rattle.whole.proofs.Linear.{zarith, parts-le, abs-add, abs-sub, le-parts, in-le}
 use Rattle.whole.proofs.Quote.{⟨_⟩, #, _⊕_, _⊗_, ⊖, by≤, by<, of≤, of<, bal}
 use Rattle.whole.proofs.Rounding.{line-size, floor-lo, floor-hi}
 use Rattle.earth.specs.Ranges.{InMs, InF, InDay}

@@ -11,7 +11,8 @@ use mir.Syntax.{w64}
 use mir.Val.{Fits, toZ, ofZ}
 use Rattle.whole.proofs.Machine.{var, is}
 use Rattle.whole.specs.Whole.{P, N, ∣_∣, floorZ, modZ}
-use Rattle.whole.proofs.Linear.{zarith, In, in-le, parts-le, abs-add, abs-mul≤, mul-P, mul-N, add-law}
+use Rattle.whole.specs.Ranges.{In}
+use Rattle.whole.proofs.Linear.{zarith, in-le, parts-le, abs-add, abs-mul≤, mul-P, mul-N, add-law}
 use Rattle.whole.proofs.Rounding.{mod-below, floor-abs, floor-unique}
 use Rattle.whole.proofs.Quote.{⟨_⟩, #, _⊕_, _⊗_, by≤, by<}
 use Rattle.earth.specs.Ranges.{InDay, InMs, InAdd}

@@ -1,7 +1,7 @@
 -- How large the numbers of a delay can be: what the code asks of its inputs, by the ranges of document 01's fields.
 use Prim.Native.Nat.{ℕ, _^_, _≤_}
 use lib.IntN.{ℤ, pos, negℤ}
-use Rattle.whole.proofs.Linear.{In}
+use Rattle.whole.specs.Ranges.{In}
 use Rattle.whole.specs.Whole.{∣_∣}
 use Rattle.earth.specs.Ranges.{InDay, InMs, InTai}
 use Rattle.session.specs.declared.Station.{Station}

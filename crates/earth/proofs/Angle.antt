@@ -7,7 +7,7 @@ use lib.IntN.{ℤ, pos, negsuc, negℤ, _+ℤ_, _-ℤ_, _*ℤ_}
 use Rattle.whole.specs.Whole.{P, N, ∣_∣, floorZ, modZ}
 use Rattle.whole.proofs.Quote.{⟨_⟩, #, _⊕_, _⊝_, _⊗_, ⊖, by≡, of≡, bal}
 use Rattle.whole.proofs.Rounding.{floor-mod, mod-below}
-use Rattle.whole.proofs.Linear.{In}
+use Rattle.whole.specs.Ranges.{In}
 use Rattle.earth.specs.Ranges.{InDay, InF}
 use Rattle.earth.specs.Angle.{fmOf, sumOf, eOf, eraOf, turn, exactOf, Near}
 use Rattle.earth.proofs.Floors.{floor-more, mod-more, abs-within}

@@ -12,7 +12,8 @@ use mir.Facts.{and-yes, ltb-yes}
 use mir.Syntax.{w64}
 use mir.Val.{toZ, ofZ}
 use Rattle.whole.specs.Whole.{P, N, ∣_∣, floorZ, modZ}
-use Rattle.whole.proofs.Linear.{In, ret}
+use Rattle.whole.specs.Ranges.{In}
+use Rattle.whole.proofs.Linear.{ret}
 use Rattle.whole.proofs.Quote.{⟨_⟩, #, _⊕_, _⊗_, by≡, by≤, by<, of≡}
 use Rattle.whole.proofs.Machine.{M, var, val, raw, safe, is}
 use Rattle.whole.proofs.Rounding.{floor-mod, mod-below, mod-unique, floor-unique}

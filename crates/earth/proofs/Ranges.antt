@@ -2,7 +2,8 @@
 use mathlib.Core.Path.{_≡_}
 use mathlib.Core.Bool.{true, _&&_}
 use lib.IntN.{ℤ, pos, negℤ}
-use Rattle.whole.proofs.Linear.{In, and-true, in-yes}
+use Rattle.whole.specs.Ranges.{In}
+use Rattle.whole.proofs.Linear.{and-true, in-yes}
 use Rattle.earth.specs.Ranges.{within, dayOk, msOk, fOk, InDay, InMs, InF}
 
 pub epoch-yes : (day ms most more : ℤ) → (dayOk day && (msOk ms && within (pos 0) most more)) ≡ true → InDay day × InMs ms × In (pos 0) most more

@@ -7,3 +7,4 @@ pub mod TideInUT1
 pub mod Angle
 pub mod Rotation
 pub mod Calls
+pub mod Starred

@@ -3,7 +3,7 @@
 use mathlib.Core.Bool.{Bool, _&&_}
 use lib.IntN.{ℤ, pos, negℤ}
 use lib.Signed.{leZ}
-use Rattle.whole.proofs.Linear.{In}
+use Rattle.whole.specs.Ranges.{In}
 
 -- lo ≤ z ≤ hi
 abbrev pub within : ℤ → ℤ → ℤ → Bool

@@ -3,4 +3,4 @@ pub mod Bools
 pub mod Numbers
 pub mod Answers
 pub mod Own
-pub mod Cases
+pub mod Starred

@@ -1,3 +1,4 @@
 pub mod Lent
 pub mod Host
 pub mod Ends
+pub mod Starred

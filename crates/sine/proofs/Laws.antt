@@ -1,9 +1,8 @@
--- The laws of the sine and the cosine that the crates above cite: one value, size, symmetry, and the small starred sines. Assumes nothing.
+-- The laws of the sine and the cosine that the crates above cite: one value, size and symmetry. Assumes nothing.
 use mathlib.Core.Path.{_≡_, refl, sym, ap, _∙_}
-use mathlib.Core.List.{[], _∷_, map}
 use Prim.Native.Nat.{ℕ, zero, suc, _+_, _*_, _-_, _/_, _%_, _^_, _≤_, _<_}
 use native.Mathlib.Omega.{arith}
-use lib.IntN.{ℤ, pos, negsuc, negℤ, negℤ-negℤ}
+use lib.IntN.{ℤ, pos, negℤ, negℤ-negℤ}
 use Rattle.whole.specs.Whole.{∣_∣}
 use Rattle.whole.proofs.Linear.{P-neg, N-neg}
 use Rattle.sine.specs.Sine.{stepsOf, sBy, S, quarter, sineOf, cosineOf}
@@ -118,8 +117,3 @@ cosine-even a h =
     let d = (2 ^ 32 - a) % 2 ^ 32 in
     rw (← mirror a b c d ((b + c) / 2 ^ 32) ((a + d) / 2 ^ 32) ((a + 2 ^ 30) / 2 ^ 32) (omega arith) (back b (omega arith)) (back a h))
     (sine-half c (omega arith) ∙ ap negℤ (sine-odd b (omega arith)) ∙ negℤ-negℤ (sineOf b))
-
--- ---- "sine of tick 0 is 0; of 1 is 1; of 2 is 3; of 3 is 4; of 2^32-1 is -1; of 2^31+2 is -3"
-pub small-sines : map sineOf (0 ∷ 1 ∷ 2 ∷ 3 ∷ (2 ^ 32 - 1) ∷ (2 ^ 31 + 2) ∷ []) ≡ (pos 0 ∷ pos 1 ∷ pos 3 ∷ pos 4 ∷ negsuc 0 ∷ negsuc 2 ∷ [])
-unfolding sineOf quarter S sBy stepsOf
-small-sines = refl

@@ -6,3 +6,4 @@ pub mod Argument
 pub mod TaylorSum
 pub mod Cap
 pub mod Distance
+pub mod Starred

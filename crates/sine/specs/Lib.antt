@@ -1,2 +1,3 @@
 pub mod Sine
 pub mod Taylor
+pub mod Starred

@@ -3,4 +3,4 @@ pub mod Runs
 pub mod Room
 pub mod Each
 pub mod Answers
-pub mod Cases
+pub mod Starred

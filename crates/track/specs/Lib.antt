@@ -2,3 +2,4 @@ pub mod Segments
 pub mod Rule
 pub mod Made
 pub mod Answer
+pub mod Starred

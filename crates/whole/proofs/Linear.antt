@@ -14,6 +14,7 @@ use mir.Syntax.{Width, w32, w64}
 use mir.Val.{SFits, hbits, toZ, ofZ}
 use mir.Facts.{toZ-ofZ}
 use Rattle.whole.specs.Whole.{P, N, ∣_∣}
+use Rattle.whole.specs.Ranges.{In}
 
 sub-by : (a b : ℕ) (t : Bool) → ltb a b ≡ t → P (cond t (negsuc (b - suc a)) (pos (a - b))) + b ≡ N (cond t (negsuc (b - suc a)) (pos (a - b))) + a
 sub-by a b true e = omega (arith, ltb-true a b e)
@@ -194,13 +195,6 @@ le-parts {a = negsuc a} {b = negsuc b} h = omega zarith
 
 pub parts-le : (a b : ℤ) → P a ≤ P b → N b ≤ N a → a ≤ℤ b
 parts-le a b h k = omega zarith
-
--- lo ≤ z ≤ hi, in a form that `omega` reads with no rule: at literals each bound is a numeral
-pub record In (lo hi z : ℤ) : Type 0 where
-  pub n-lo : N z ≤ N lo
-  pub p-lo : P lo ≤ P z
-  pub p-hi : P z ≤ P hi
-  pub n-hi : N hi ≤ N z
 
 pub in-le : {lo hi z : ℤ} → lo ≤ℤ z → z ≤ℤ hi → In lo hi z
 in-le h k = record { n-lo = le-parts h .1; p-lo = le-parts h .0; p-hi = le-parts k .0; n-hi = le-parts k .1 }

@@ -1,2 +1,4 @@
 pub mod Steps
 pub mod Whole
+pub mod Cases
+pub mod Ranges

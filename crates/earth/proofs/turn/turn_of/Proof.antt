@@ -6,7 +6,8 @@ use lib.IntN.{ℤ, pos, negℤ, natAbs, _+ℤ_, _-ℤ_}
 use lib.Signed.{_≤ℤ_}
 use mir.Syntax.{w64}
 use mir.Val.{toZ, ofZ}
-use Rattle.whole.proofs.Linear.{In, back}
+use Rattle.whole.specs.Ranges.{In}
+use Rattle.whole.proofs.Linear.{back}
 use Rattle.whole.proofs.Quote.{⟨_⟩, #, _⊕_, _⊝_, by≤}
 use Rattle.whole.proofs.Machine.{M, lit, raw, _⊞_, _⊟_, val, ok, cast-ok, cast-is}
 use Rattle.earth.specs.Angle.{fmOf}

@@ -1,0 +1,20 @@
+-- Document 01, 'Numbers to meet': the starred cases of tracks hold, by computation; and no samples are refused.
+use mathlib.Core.Path.{_≡_, refl}
+use mathlib.Core.List.{[]}
+use lib.IntN.{pos}
+use Rattle.whole.specs.Cases.{Hold}
+use Rattle.fit.specs.Greedy.{grow, longest, counts}
+use Rattle.fit.specs.Rates.{low, upp, rowLo, rowHi, lo, hi, fit, off, bias, scaled, fitOf, tilted, lifted, rateOf, offsetOf}
+use Rattle.track.specs.Segments.{flat}
+use Rattle.track.specs.Made.{segOf, segsOf, trackOf}
+use Rattle.track.specs.Answer.{each, inRange, refused, outcome}
+use Rattle.track.specs.Starred.{eleven, trackAnswer, trackCases}
+
+pub tracks-hold : Hold trackAnswer trackCases
+unfolding trackCases grow longest counts low upp rowLo rowHi lo hi fit off bias scaled fitOf tilted lifted rateOf offsetOf segOf segsOf trackOf flat each inRange outcome
+tracks-hold = refl
+
+-- "No samples: 2."
+pub none-refused : outcome [] (pos 0) eleven ≡ refused 2 eleven
+unfolding each inRange outcome
+none-refused = refl
