@@ -31,9 +31,9 @@ pub fn refusal_of(s: &[u8]) -> usize
     0
 }
 
-// A small number of the code, as an answer holds it.
+// A number of the code, as an answer holds it.
 pub fn number(n: usize) -> i64
-    requires { ⌜ n < 65536 ⌝ }
+    requires { ⌜ n < 9223372036854775808 ⌝ }
     ensures { λ r. ⌜ r ≡ pos n ⌝ }
 {
     n as i64
