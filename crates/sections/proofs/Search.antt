@@ -12,13 +12,7 @@ use lib.Dec.{eqb, ltb}
 use borrow.Author.Tests.{not-true, not-false, lt-ltb, le-ltb, eq-eqb, ne-eqb, eqb-true}
 use Rattle.sections.specs.Each.{allBelow, firstNot}
 
--- ---- tests that a function leaves by: r, which a call gave and is to be s, was tested by `if !r`
-
-pub failed : {r s : Bool} → r ≡ s → not r ≡ true → s ≡ false
-failed {r} e h = sym e ∙ not-true r h
-
-pub passed : {r s : Bool} → r ≡ s → not r ≡ false → s ≡ true
-passed {r} e h = sym e ∙ not-false r h
+-- ---- tests joined
 
 pub no-way {ℓ} : {X : Type ℓ} → false ≡ true → X
 no-way h = let e : _≡_ {A = ℕ} 0 1 = cc in absurd (omega arith)

@@ -6,7 +6,8 @@ use native.Mathlib.Nat.{mul-le-mul-left}
 use native.Mathlib.Numerals.{add-one-le}
 use Rattle.sections.specs.Each.{firstNot}
 use Rattle.sections.specs.Code.{stepBy}
-use Rattle.sections.proofs.Search.{first-zero, first-next, first-hit, failed, passed}
+use Rattle.whole.proofs.Tests.{failed, passed}
+use Rattle.sections.proofs.Search.{first-zero, first-next, first-hit}
 use Rattle.sections.proofs.order.first_step.Statement.{statement}
 use Rattle.sections.proofs.order.first_step.Tie as tie
 

@@ -4,7 +4,8 @@ use Prim.Native.Nat.{_≤_, _-_}
 use native.Mathlib.Omega.{arith}
 use Rattle.sections.specs.Each.{firstNot}
 use Rattle.sections.specs.File.{sectionRight}
-use Rattle.sections.proofs.Search.{first-zero, first-next, first-hit, failed, passed}
+use Rattle.whole.proofs.Tests.{failed, passed}
+use Rattle.sections.proofs.Search.{first-zero, first-next, first-hit}
 use Rattle.sections.proofs.ranges.wrong_section.Statement.{statement}
 use Rattle.sections.proofs.ranges.wrong_section.Tie as tie
 
