@@ -8,12 +8,14 @@ use mathlib.Core.List.{List, []}
 use lib.ListN.{length}
 use lib.Dec.{eqb, ltb}
 use borrow.Author.Tests.{eq-eqb, eqb-true, lt-ltb, le-ltb, ne-eqb}
-use Rattle.sections.specs.Each.{allBelow, firstNot}
+use Rattle.whole.specs.Each.{allBelow, firstNot}
 use Rattle.sections.specs.Layouts.{rising, consecutive}
 use Rattle.sections.specs.File.{sectionsRight, kindRight, offsetRight, countRight, lengthRight, kindsRight, countsRight, offsetsRight, contentsRight, sectionRight, rangesRight, orderRight, idsRight, daysRight, refusalOf}
 use Rattle.sections.specs.Code.{testPassed, firstFailed}
 use Rattle.sections.specs.Table.{entryRight, wordRight, wrongWord}
-use Rattle.sections.proofs.Search.{both, and-yes, below-each, below-all, same-test, all-none, none-all, first-most, no-way, some-first, all-past}
+use Rattle.whole.proofs.Linear.{and-true, no-ft}
+use Rattle.whole.proofs.Tests.{and-yes, same-test}
+use Rattle.whole.proofs.Each.{below-each, below-all, all-none, none-all, first-most, some-first, all-past}
 use Rattle.sections.proofs.Walk.{entry-words}
 use Rattle.sections.proofs.Sound.{five}
 

@@ -6,7 +6,7 @@ use lib.ListN.{getD}
 use lib.IntN.{ℤ, pos}
 use lib.Signed.{leZ}
 use lib.Dec.{eqb}
-use Rattle.sections.specs.Each.{allBelow}
+use Rattle.whole.specs.Each.{allBelow}
 use Rattle.sections.specs.Words.{numberAt}
 use Rattle.sections.specs.File.{steps, eqZ, rangesRight, idsRight, daysRight}
 

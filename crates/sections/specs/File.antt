@@ -7,7 +7,7 @@ use lib.ListN.{length, getD}
 use lib.IntN.{ℤ, pos, _+ℤ_}
 use lib.Signed.{leZ, ltZ}
 use lib.Dec.{leb, eqb}
-use Rattle.sections.specs.Each.{allBelow, implies}
+use Rattle.whole.specs.Each.{allBelow, implies}
 use Rattle.sections.specs.Words.{numberAt, word}
 use Rattle.sections.specs.Layouts.{Range, Layout, layoutIn, standsIn, rising, consecutive, range}
 

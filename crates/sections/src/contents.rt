@@ -3,7 +3,7 @@ ghost use mathlib.Core.Path.{_≡_};
 ghost use mathlib.Core.Bool.{true};
 ghost use Prim.Native.Nat.{suc, _+_, _*_, _<_, _≤_};
 ghost use lib.ListN.{length};
-ghost use Rattle.sections.specs.Each.{firstNot};
+ghost use Rattle.whole.specs.Each.{firstNot};
 ghost use Rattle.sections.specs.Layouts.{shapeOf};
 ghost use Rattle.sections.specs.File.{present, between, layoutOf, sectionsRight, kindRight, offsetRight, countRight, lengthRight, startOf};
 ghost use Rattle.sections.specs.Table.{entryRight, wrongWord};

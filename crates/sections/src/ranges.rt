@@ -4,7 +4,7 @@ ghost use mathlib.Core.Bool.{true, _&&_};
 ghost use Prim.Native.Nat.{_+_, _*_, _<_, _≤_};
 ghost use lib.ListN.{length};
 ghost use lib.Signed.{leZ};
-ghost use Rattle.sections.specs.Each.{firstNot};
+ghost use Rattle.whole.specs.Each.{firstNot};
 ghost use Rattle.sections.specs.Code.{insideBy, recordBy};
 ghost use Rattle.sections.specs.File.{contentsRight, countOf, sizeOf, fieldRight, recordRight, sectionRight};
 use crate::contents::layout_of;

@@ -6,7 +6,7 @@ use native.Mathlib.Decide.{ℕ-discrete}
 use mathlib.Core.Bool.{Bool, true, false, cond}
 use mathlib.Core.List.{List}
 use lib.IntN.{ℤ, pos}
-use Rattle.sections.specs.Each.{firstNot, allBelow, implies}
+use Rattle.whole.specs.Each.{firstNot, allBelow, implies}
 use lib.Dec.{eqb}
 use Rattle.sections.specs.Layouts.{rising, consecutive}
 use Rattle.sections.specs.File.{sectionRight, recordRight, fieldRight, orderRight, stepRight, countOf, sizeOf, refusalOf, contentsRight, rangesRight, idsRight, daysRight, kindOf, layoutOf, lengthRight}
@@ -15,7 +15,8 @@ use Rattle.session.specs.Records.{checkOf, countsIn, noCounts}
 use Rattle.sections.specs.Table.{wordRight, wrongWord}
 use Rattle.sections.proofs.Walk.{wrong-is, wrong-length-is}
 use Rattle.session.specs.Fault.{placeOf, rangeFault, orderFault, faultBy, faultOf, rangeRecord, rangeField}
-use Rattle.sections.proofs.Search.{first-fails, first-before, not-all, no-way}
+use Rattle.whole.proofs.Linear.{no-ft}
+use Rattle.whole.proofs.Each.{first-fails, first-before, not-all}
 use Rattle.session.proofs.Answers.{check-refused, check-accepted}
 
 -- ---- by the number
@@ -130,7 +131,7 @@ pub record OutOfOrder (s : List ℕ) (o p i : ℕ) : Type 0 where
 
 implied : (a b : Bool) → implies a b ≡ false → b ≡ false
 implied true b h = h
-implied false b h = no-way (sym h)
+implied false b h = no-ft (sym h)
 
 out-of-order : (s : List ℕ) (o : ℕ) → allBelow 4 (orderRight s o) ≡ false
     → OutOfOrder s o (firstNot 4 (orderRight s o)) (firstNot (countOf s (firstNot 4 (orderRight s o)) - 1) (stepRight s o (firstNot 4 (orderRight s o))))

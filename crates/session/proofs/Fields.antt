@@ -11,13 +11,13 @@ use lib.Signed.{mag}
 use mir.Syntax.{w64}
 use mir.Val.{toZ, ofZ}
 use Rattle.whole.proofs.Linear.{ret}
-use Rattle.sections.specs.Each.{firstNot}
+use Rattle.whole.specs.Each.{firstNot}
 use Rattle.sections.specs.Words.{numberAt}
 use Rattle.sections.specs.Layouts.{Layout, station, source, orientation, pass}
 use Rattle.sections.specs.File.{contentsRight, kindOf, layoutOf, sizeOf, firstByte, countOf, recordByte, fieldAt, eqZ, refusalOf}
 use Rattle.sections.specs.Code.{otherBy}
 use Rattle.session.specs.Records.{placeBy}
-use Rattle.sections.proofs.Search.{first-same}
+use Rattle.whole.proofs.Each.{first-same}
 use Rattle.sections.proofs.Shapes.{in-first, in-second, in-third, in-fourth}
 use Rattle.sections.proofs.Sound.{kind-stands}
 use Rattle.sections.proofs.Accepted.{accepted-contents}

@@ -2,7 +2,7 @@
 use Prim.Native.Nat.{ℕ, zero, suc, _+_, _-_}
 use mathlib.Core.List.{List}
 use lib.IntN.{ℤ, pos}
-use Rattle.sections.specs.Each.{firstNot}
+use Rattle.whole.specs.Each.{firstNot}
 use Rattle.sections.specs.Table.{wrongWord}
 use Rattle.sections.specs.Layouts.{rising, consecutive}
 use Rattle.session.specs.declared.Place.{Place}

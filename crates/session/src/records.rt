@@ -3,7 +3,7 @@ ghost use mathlib.Core.Path.{_≡_};
 ghost use mathlib.Core.Bool.{not};
 ghost use Prim.Native.Nat.{ℕ, _+_, _*_, _<_, _≤_};
 ghost use lib.ListN.{length};
-ghost use Rattle.sections.specs.Each.{firstNot};
+ghost use Rattle.whole.specs.Each.{firstNot};
 ghost use Rattle.sections.specs.Words.{numberAt};
 ghost use Rattle.sections.specs.Code.{otherBy};
 ghost use Rattle.sections.specs.File.{refusalOf, countOf, eqZ};

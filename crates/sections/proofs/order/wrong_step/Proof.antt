@@ -2,7 +2,7 @@ use mathlib.Core.Path.{_≡_, ap, ap₂, sym, _∙_}
 use native.Mathlib.Omega.{arith}
 use Prim.Native.Nat.{ℕ, _-_, _+_, _*_, _≤_}
 use lib.ListN.{length}
-use Rattle.sections.specs.Each.{firstNot}
+use Rattle.whole.specs.Each.{firstNot}
 use Rattle.sections.specs.Layouts.{shapeOf}
 use Rattle.sections.specs.File.{layoutOf, sizeOf, countOf, firstByte}
 use Rattle.sections.specs.Code.{stepBy}

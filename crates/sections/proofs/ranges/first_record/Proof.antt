@@ -3,9 +3,9 @@ use mathlib.Core.Path.{_≡_, sym, _∙_}
 use Prim.Native.Nat.{_+_, _-_, _≤_, _<_}
 use native.Mathlib.Omega.{arith}
 use native.Mathlib.Nat.{mul-le-mul-left}
-use Rattle.sections.specs.Each.{firstNot}
+use Rattle.whole.specs.Each.{firstNot}
 use Rattle.sections.specs.Code.{recordBy}
-use Rattle.sections.proofs.Search.{first-zero, first-next, first-hit, some-first, all-past}
+use Rattle.whole.proofs.Each.{first-zero, first-next, first-hit, some-first, all-past}
 use Rattle.sections.proofs.ranges.first_record.Statement.{statement}
 use Rattle.sections.proofs.ranges.first_record.Tie as tie
 

@@ -1,4 +1,4 @@
-use Rattle.sections.specs.Each.{firstNot}
+use Rattle.whole.specs.Each.{firstNot}
 use Rattle.sections.specs.File.{firstByte}
 use Rattle.sections.specs.Code.{recordBy}
 use mathlib.Core.Path.{_≡_, ap, sym, _∙_}

@@ -2,7 +2,7 @@ use mathlib.Core.Path.{_≡_, sym, ap, _∙_}
 use Prim.Native.Nat.{ℕ}
 use lib.Dec.{eqb}
 use Rattle.sections.specs.File.{rangesRight}
-use Rattle.sections.proofs.Search.{all-first}
+use Rattle.whole.proofs.Each.{all-first}
 use Rattle.sections.proofs.Accepted.{test-ranges, test-ids, test-days}
 use borrow.Author.Needs.{needs}
 use Rattle.sections.proofs.refusal.test_passed.Statement.{statement}

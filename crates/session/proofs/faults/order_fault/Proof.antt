@@ -5,7 +5,7 @@ use lib.IntN.{pos}
 use Rattle.sections.specs.File.{countOf, stepRight}
 use Rattle.session.specs.Fault.{orderFault}
 use Rattle.whole.proofs.Linear.{ret}
-use Rattle.sections.proofs.Search.{first-most}
+use Rattle.whole.proofs.Each.{first-most}
 use Rattle.sections.proofs.Sound.{counts-most}
 use Rattle.session.proofs.Answers.{number-back}
 use borrow.Author.Needs.{needs}
