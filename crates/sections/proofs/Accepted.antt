@@ -124,7 +124,11 @@ pub is-first : (s : List ℕ) → contentsRight s ≡ true → refusalOf s ≡ f
 unfolding refusalOf
 is-first s a = rw a
 
-most : (a b c d : Bool) → cond a (cond b (cond c (cond d 0 4) 3) 2) 1 ≤ 4
+-- the number by the four tests
+abbrev pub byTests : Bool → Bool → Bool → Bool → ℕ
+byTests a b c d = cond a (cond b (cond c (cond d 0 4) 3) 2) 1
+
+most : (a b c d : Bool) → byTests a b c d ≤ 4
 most false b c d = omega arith
 most true false c d = omega arith
 most true true false d = omega arith

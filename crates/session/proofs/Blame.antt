@@ -13,6 +13,7 @@ use Rattle.sections.specs.File.{sectionRight, recordRight, fieldRight, orderRig
 use Rattle.session.specs.declared.Counts.{Counts}
 use Rattle.session.specs.Records.{checkOf, countsIn, noCounts}
 use Rattle.sections.specs.Table.{wordRight, wrongWord}
+use Rattle.sections.proofs.Accepted.{byTests, refusal-most}
 use Rattle.sections.proofs.Walk.{wrong-is, wrong-length-is}
 use Rattle.session.specs.Fault.{placeOf, rangeFault, orderFault, faultBy, faultOf, rangeRecord, rangeField}
 use Rattle.whole.proofs.Linear.{no-ft}
@@ -57,21 +58,6 @@ by-number s (suc (suc zero)) h = refl
 by-number s (suc (suc (suc zero))) h = refl
 by-number s (suc (suc (suc (suc zero)))) h = refl
 by-number s (suc (suc (suc (suc (suc n))))) h = absurd (omega arith)
-
--- the number by the four tests
-abbrev byTests : Bool → Bool → Bool → Bool → ℕ
-byTests a b c d = cond a (cond b (cond c (cond d 0 4) 3) 2) 1
-
-most : (a b c d : Bool) → byTests a b c d ≤ 4
-most false b c d = omega arith
-most true false c d = omega arith
-most true true false d = omega arith
-most true true true false = omega arith
-most true true true true = omega arith
-
-pub refusal-most : (s : List ℕ) → refusalOf s ≤ 4
-unfolding refusalOf
-refusal-most s = most (contentsRight s) (rangesRight s) (idsRight s) (daysRight s)
 
 check-number : (s : List ℕ) → Dec (refusalOf s ≡ 0) → checkOf s .refusal ≡ pos (refusalOf s)
 check-number s (yes h) = ap (λ (c : Counts). c .refusal) (check-accepted s h) ∙ ap pos (sym h)

@@ -10,6 +10,10 @@ use faults::order_fault;
 use faults::range_fault;
 use records::asked;
 use records::day_of;
+use records::no_day;
+use records::no_pass;
+use records::no_source;
+use records::no_station;
 use records::pass_of;
 use records::source_of;
 use records::station_of;
@@ -106,13 +110,7 @@ pub fn station_at(file: &[u8], index: usize) -> Station
 {
     let n = asked(file, 0, index);
     if n != 0 {
-        return Station {
-            refusal: number(n),
-            id: 0,
-            x: 0,
-            y: 0,
-            z: 0,
-        };
+        return no_station(n);
     }
     station_of(file, index)
 }
@@ -123,12 +121,7 @@ pub fn source_at(file: &[u8], index: usize) -> Source
 {
     let n = asked(file, 1, index);
     if n != 0 {
-        return Source {
-            refusal: number(n),
-            id: 0,
-            right_ascension: 0,
-            declination: 0,
-        };
+        return no_source(n);
     }
     source_of(file, index)
 }
@@ -139,14 +132,7 @@ pub fn day_at(file: &[u8], index: usize) -> Day
 {
     let n = asked(file, 2, index);
     if n != 0 {
-        return Day {
-            refusal: number(n),
-            mjd: 0,
-            x: 0,
-            y: 0,
-            ut1_utc: 0,
-            tai_utc: 0,
-        };
+        return no_day(n);
     }
     day_of(file, index)
 }
@@ -157,17 +143,7 @@ pub fn pass_at(file: &[u8], index: usize) -> Pass
 {
     let n = asked(file, 3, index);
     if n != 0 {
-        return Pass {
-            refusal: number(n),
-            station1: 0,
-            station2: 0,
-            source: 0,
-            mjd: 0,
-            ms: 0,
-            step: 0,
-            samples: 0,
-            tolerance: 0,
-        };
+        return no_pass(n);
     }
     pass_of(file, index)
 }

@@ -1,6 +1,6 @@
-use mathlib.Core.Path.{_≡_, refl, sym, _∙_}
-use lib.IntN.{pos}
-use Rattle.session.proofs.Answers.{number-back, asked-zero, source-no, source-yes}
+use mathlib.Core.Path.{_≡_, sym, ap, _∙_}
+use Rattle.session.specs.Records.{noSource}
+use Rattle.session.proofs.Answers.{asked-zero, source-no, source-yes}
 use borrow.Author.Needs.{needs}
 use Rattle.session.proofs.source_at.Statement.{statement}
 use Rattle.session.proofs.source_at.Tie as tie
@@ -8,14 +8,13 @@ use Rattle.session.proofs.source_at.Tie as tie
 asked-requires : tie.Need-asked-requires
 asked-requires c κs = search needs
 
-number-requires : tie.Need-number-requires
-number-requires c κs = search needs
+no-source-requires : tie.Need-no-source-requires
+no-source-requires c κs = search needs
 
 returns : tie.Need-returns
 returns c =
     let n = c .before .before .asked .ensures .0 in
-    let g = number-back (c .number .result) _ _ (c .number .ok) (c .number .ensures) n in
-    (λ j. record { refusal = g j; id = pos 0; «right_ascension» = pos 0; declination = pos 0 }) ∙ sym (source-no _ _ (λ e. c .before .if1 .taken (n ∙ e)))
+    c .no-source .ensures ∙ ap noSource n ∙ sym (source-no _ _ (λ e. c .before .if1 .taken (n ∙ e)))
 
 source-of-requires : tie.Need-source-of-requires
 source-of-requires c κs = asked-zero _ 1 _ (sym (c .before .asked .ensures .0) ∙ c .if1 .left)
@@ -25,4 +24,4 @@ returns-2 c = c .source-of .ensures ∙ sym (source-yes _ _ (sym (c .before .bef
 
 pub source-at-spec : {M : Type 1} → statement M
 source-at-spec =
-    tie.close (tie.spec asked-requires number-requires returns source-of-requires returns-2)
+    tie.close (tie.spec asked-requires no-source-requires returns source-of-requires returns-2)

@@ -1,6 +1,6 @@
-use mathlib.Core.Path.{_≡_, refl, sym, _∙_}
-use lib.IntN.{pos}
-use Rattle.session.proofs.Answers.{number-back, asked-zero, station-no, station-yes}
+use mathlib.Core.Path.{_≡_, sym, ap, _∙_}
+use Rattle.session.specs.Records.{noStation}
+use Rattle.session.proofs.Answers.{asked-zero, station-no, station-yes}
 use borrow.Author.Needs.{needs}
 use Rattle.session.proofs.station_at.Statement.{statement}
 use Rattle.session.proofs.station_at.Tie as tie
@@ -8,14 +8,13 @@ use Rattle.session.proofs.station_at.Tie as tie
 asked-requires : tie.Need-asked-requires
 asked-requires c κs = search needs
 
-number-requires : tie.Need-number-requires
-number-requires c κs = search needs
+no-station-requires : tie.Need-no-station-requires
+no-station-requires c κs = search needs
 
 returns : tie.Need-returns
 returns c =
     let n = c .before .before .asked .ensures .0 in
-    let g = number-back (c .number .result) _ _ (c .number .ok) (c .number .ensures) n in
-    (λ j. record { refusal = g j; id = pos 0; x = pos 0; y = pos 0; z = pos 0 }) ∙ sym (station-no _ _ (λ e. c .before .if1 .taken (n ∙ e)))
+    c .no-station .ensures ∙ ap noStation n ∙ sym (station-no _ _ (λ e. c .before .if1 .taken (n ∙ e)))
 
 station-of-requires : tie.Need-station-of-requires
 station-of-requires c κs = asked-zero _ 0 _ (sym (c .before .asked .ensures .0) ∙ c .if1 .left)
@@ -25,4 +24,4 @@ returns-2 c = c .station-of .ensures ∙ sym (station-yes _ _ (sym (c .before .b
 
 pub station-at-spec : {M : Type 1} → statement M
 station-at-spec =
-    tie.close (tie.spec asked-requires number-requires returns station-of-requires returns-2)
+    tie.close (tie.spec asked-requires no-station-requires returns station-of-requires returns-2)
