@@ -14,9 +14,9 @@ use lib.Dec.{leb, ltb, eqb}
 use borrow.Author.Tests.{leb-true, ltb-true, eqb-true}
 use Rattle.whole.specs.Each.{allBelow, firstNot}
 use Rattle.sections.specs.Words.{numberAt}
-use Rattle.sections.specs.Layouts.{Range, range, Layout, padded, shapeOf, standsIn}
+use Rattle.sections.specs.Layouts.{Range, range, Layout, standsIn}
+use Rattle.sections.specs.Code.{padded, shapeOf, insideBy, recordBy, stepBy}
 use Rattle.sections.specs.File.{present, layoutOf, sizeOf, countOf, kindOf, firstByte, startOf, sectionsRight, kindRight, offsetRight, countRight, lengthRight, kindsRight, countsRight, offsetsRight, contentsRight, recordByte, fieldAt, rangeOf, fieldRight, recordRight, steps, stepRight}
-use Rattle.sections.specs.Code.{insideBy, recordBy, stepBy}
 use Rattle.whole.proofs.Linear.{and-true}
 use Rattle.whole.proofs.Each.{below-each, first-same, all-same}
 use Rattle.sections.proofs.Shapes.{size-small, stands-some}

@@ -4,7 +4,7 @@ ghost use mathlib.Core.Bool.{true};
 ghost use Prim.Native.Nat.{suc, _+_, _*_, _<_, _≤_};
 ghost use lib.ListN.{length};
 ghost use Rattle.whole.specs.Each.{firstNot};
-ghost use Rattle.sections.specs.Layouts.{shapeOf};
+ghost use Rattle.sections.specs.Code.{shapeOf};
 ghost use Rattle.sections.specs.File.{present, between, layoutOf, sectionsRight, kindRight, offsetRight, countRight, lengthRight, startOf};
 ghost use Rattle.sections.specs.Table.{entryRight, wrongWord};
 use crate::layouts::Shape;

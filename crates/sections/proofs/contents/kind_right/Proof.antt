@@ -3,7 +3,7 @@ use native.Mathlib.Omega.{arith}
 use borrow.Author.Tests.{leb-true}
 use Prim.Native.Nat.{ℕ}
 use lib.Dec.{ltb}
-use Rattle.sections.specs.Layouts.{shapeOf}
+use Rattle.sections.specs.Code.{shapeOf}
 use Rattle.sections.specs.File.{kindRight}
 use Rattle.sections.specs.declared.layouts.Shape.{Shape}
 use Rattle.whole.proofs.Tests.{failed, passed}

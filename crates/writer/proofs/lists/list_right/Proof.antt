@@ -2,7 +2,8 @@ use mathlib.Core.Path.{_≡_, ap, sym, _∙_}
 use native.Mathlib.Omega.{arith}
 use native.Mathlib.Nat.{mul-div-le}
 use Prim.Native.Nat.{ℕ, _*_, _/_, _%_, _<_, _≤_}
-use Rattle.sections.specs.Layouts.{shapeOf, layoutIn}
+use Rattle.sections.specs.Layouts.{layoutIn}
+use Rattle.sections.specs.Code.{shapeOf}
 use Rattle.sections.specs.declared.layouts.Shape.{Shape}
 use Rattle.writer.specs.Writing.{sizeIn}
 use Rattle.writer.proofs.Counts.{list-none, list-broken, list-few, list-is, positive}
