@@ -109,10 +109,10 @@ pub fn station_at(file: &[u8], index: usize) -> Station
     ensures { λ r. ⌜ r ≡ stationAt (now (file .entry)) index ⌝ }
 {
     let n = asked(file, 0, index);
-    if n != 0 {
-        return no_station(n);
+    if n == 0 {
+        return station_of(file, index);
     }
-    station_of(file, index)
+    no_station(n)
 }
 
 // Source index, counted from 0, of a file; 5 beyond the last.
@@ -120,10 +120,10 @@ pub fn source_at(file: &[u8], index: usize) -> Source
     ensures { λ r. ⌜ r ≡ sourceAt (now (file .entry)) index ⌝ }
 {
     let n = asked(file, 1, index);
-    if n != 0 {
-        return no_source(n);
+    if n == 0 {
+        return source_of(file, index);
     }
-    source_of(file, index)
+    no_source(n)
 }
 
 // Orientation record index, counted from 0, of a file; 5 beyond the last.
@@ -131,10 +131,10 @@ pub fn day_at(file: &[u8], index: usize) -> Day
     ensures { λ r. ⌜ r ≡ dayAt (now (file .entry)) index ⌝ }
 {
     let n = asked(file, 2, index);
-    if n != 0 {
-        return no_day(n);
+    if n == 0 {
+        return day_of(file, index);
     }
-    day_of(file, index)
+    no_day(n)
 }
 
 // Pass index, counted from 0, of a file; 5 beyond the last.
@@ -142,10 +142,10 @@ pub fn pass_at(file: &[u8], index: usize) -> Pass
     ensures { λ r. ⌜ r ≡ passAt (now (file .entry)) index ⌝ }
 {
     let n = asked(file, 3, index);
-    if n != 0 {
-        return no_pass(n);
+    if n == 0 {
+        return pass_of(file, index);
     }
-    pass_of(file, index)
+    no_pass(n)
 }
 
 // Where the number that `check` gives arises first; zeros for a file that is accepted.
