@@ -8,11 +8,14 @@ use mathlib.Core.List.{List, []}
 use lib.ListN.{length}
 use lib.Dec.{eqb, ltb}
 use borrow.Author.Tests.{eq-eqb, eqb-true, lt-ltb, le-ltb, ne-eqb}
-use Rattle.sections.specs.Each.{allBelow, firstNot}
+use Rattle.whole.specs.Each.{allBelow, firstNot}
 use Rattle.sections.specs.Layouts.{rising, consecutive}
 use Rattle.sections.specs.File.{sectionsRight, kindRight, offsetRight, countRight, lengthRight, kindsRight, countsRight, offsetsRight, contentsRight, sectionRight, rangesRight, orderRight, idsRight, daysRight, refusalOf}
+use Rattle.sections.specs.Code.{testPassed, firstFailed}
 use Rattle.sections.specs.Table.{entryRight, wordRight, wrongWord}
-use Rattle.sections.proofs.Search.{both, and-yes, below-each, below-all, same-test, all-none, none-all, first-most, no-way, some-first, all-past}
+use Rattle.whole.proofs.Linear.{and-true, no-ft}
+use Rattle.whole.proofs.Tests.{and-yes, same-test}
+use Rattle.whole.proofs.Each.{below-each, below-all, all-none, none-all, first-most, some-first, all-past}
 use Rattle.sections.proofs.Walk.{entry-words}
 use Rattle.sections.proofs.Sound.{five}
 
@@ -104,6 +107,37 @@ module _ (s : List ℕ) where
         pub is-none : 4 ≤ firstNot 4 (orderRight s consecutive) → refusalOf s ≡ 0
         unfolding refusalOf rangesRight
         is-none h = rw (a, all-past 4 (sectionRight s) b, all-past 4 (orderRight s rising) d, all-past 4 (orderRight s consecutive) h)
+
+-- ---- the tests in the order of their numbers
+
+pub test-ranges : (s : List ℕ) (n : ℕ) → n ≡ 2 → testPassed s n ≡ rangesRight s
+test-ranges s n e = rw e
+
+pub test-ids : (s : List ℕ) (n : ℕ) → n ≡ 3 → testPassed s n ≡ idsRight s
+test-ids s n e = rw e
+
+pub test-days : (s : List ℕ) (n : ℕ) → (n ≡ 2 → ⊥) → (n ≡ 3 → ⊥) → testPassed s n ≡ daysRight s
+test-days s n h k = rw (ne-eqb n 2 h, ne-eqb n 3 k)
+
+-- the lowest number that applies is that of the first test that fails
+pub is-first : (s : List ℕ) → contentsRight s ≡ true → refusalOf s ≡ firstFailed s 2 3 4
+unfolding refusalOf
+is-first s a = rw a
+
+-- the number by the four tests
+abbrev pub byTests : Bool → Bool → Bool → Bool → ℕ
+byTests a b c d = cond a (cond b (cond c (cond d 0 4) 3) 2) 1
+
+most : (a b c d : Bool) → byTests a b c d ≤ 4
+most false b c d = omega arith
+most true false c d = omega arith
+most true true false d = omega arith
+most true true true false = omega arith
+most true true true true = omega arith
+
+pub refusal-most : (s : List ℕ) → refusalOf s ≤ 4
+unfolding refusalOf
+refusal-most s = most (contentsRight s) (rangesRight s) (idsRight s) (daysRight s)
 
 -- ---- the tests, by the number
 

@@ -2,7 +2,7 @@
 use mathlib.Core.Path.{_≡_, refl, sym, ap, _∙_, subst}
 use Prim.Native.Nat.{ℕ, zero, suc, _+_, _-_, _*_, _^_, _≤_, _<_}
 use native.Mathlib.Omega.{arith}
-use mathlib.Core.Bool.{Bool, true, false, _&&_, and-true}
+use mathlib.Core.Bool.{Bool, true, false, _&&_, and-true as and-right-true}
 use lib.IntN.{ℤ, pos, negsuc, negℤ, _+ℤ_, _-ℤ_}
 use lib.Signed.{leZ, ltZ}
 use lib.Dec.{T, leb, ltb, eqb}
@@ -10,9 +10,9 @@ use borrow.Author.Tests.{ne-eqb}
 use mir.Syntax.{w64}
 use mir.Val.{SFits}
 use Rattle.whole.specs.Whole.{P, N, ∣_∣}
-use Rattle.whole.proofs.Linear.{zarith, add-law, sub-lawℤ, leZ-true, leZ-false, ltZ-true, ltZ-false, ⇒leZ, ⇒ltZ, ⇒eq, fits-P, fits-N, ⇒sfits}
+use Rattle.whole.proofs.Linear.{zarith, add-law, sub-lawℤ, leZ-true, leZ-false, ltZ-true, ltZ-false, ⇒leZ, ⇒ltZ, ⇒eq, fits-P, fits-N, ⇒sfits, and-true, no-ft}
 use Rattle.sections.specs.File.{eqZ, steps}
-use Rattle.sections.proofs.Search.{both, and-yes, same-test, no-way}
+use Rattle.whole.proofs.Tests.{and-yes, same-test}
 
 -- a test that holds, as an equation, and back
 pub is-true : (b : Bool) → T b → b ≡ true
@@ -34,7 +34,7 @@ lt-yes a b h = is-true (ltZ a b) (⇒ltZ a b h)
 
 pub eqZ-true : (a b : ℤ) → eqZ a b ≡ true → a ≡ b
 eqZ-true a b h =
-    let w = both (leZ a b) (leZ b a) h in
+    let w = and-true (leZ a b) (leZ b a) h in
     let x = leZ-true a b (w .0) in
     let y = leZ-true b a (w .1) in
     ⇒eq a b (omega arith)
@@ -49,7 +49,7 @@ module _ (a b : ℤ) where
   next-no h =
       let x = leZ-true b a h in
       let y = add-law a (pos 1) in
-      le-no′ (eqZ b (a +ℤ pos 1)) (λ e. let z = leZ-true (a +ℤ pos 1) b (both (leZ b (a +ℤ pos 1)) _ e .1) in omega arith)
+      le-no′ (eqZ b (a +ℤ pos 1)) (λ e. let z = leZ-true (a +ℤ pos 1) b (and-true (leZ b (a +ℤ pos 1)) _ e .1) in omega arith)
 
   module _ (h : leZ b a ≡ false) where
     pub next-fits : SFits w64 a → SFits w64 b → SFits w64 (b -ℤ pos 1)
@@ -67,13 +67,13 @@ module _ (a b : ℤ) where
         let z = sub-lawℤ b (pos 1) in
         same-test (leZ (b -ℤ pos 1) a) (eqZ b (a +ℤ pos 1))
         (λ e. let k = leZ-true (b -ℤ pos 1) a e in and-yes (le-yes b (a +ℤ pos 1) (omega arith)) (le-yes (a +ℤ pos 1) b (omega arith)))
-        (λ e. let k = leZ-true b (a +ℤ pos 1) (both (leZ b (a +ℤ pos 1)) _ e .0) in le-yes (b -ℤ pos 1) a (omega arith))
+        (λ e. let k = leZ-true b (a +ℤ pos 1) (and-true (leZ b (a +ℤ pos 1)) _ e .0) in le-yes (b -ℤ pos 1) a (omega arith))
 
 -- ---- the orders
 
 pub steps-rising : (a b : ℤ) → steps 1 a b ≡ ltZ a b
 unfolding steps
-steps-rising a b = and-true (ltZ a b)
+steps-rising a b = and-right-true (ltZ a b)
 
 pub steps-consecutive : (a b : ℤ) → steps 2 a b ≡ eqZ b (a +ℤ pos 1)
 unfolding steps

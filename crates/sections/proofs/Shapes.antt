@@ -8,7 +8,7 @@ use lib.Dec.{eqb, leb, ltb}
 use native.Mathlib.Omega.{arith}
 use borrow.Author.Tests.{eq-eqb, ne-eqb, eqb-true, leb-true}
 use Rattle.sections.specs.Layouts.{Layout, places, station, source, orientation, pass, noLayout, ofKind, anyOfKind, layoutIn, standsIn}
-use Rattle.sections.proofs.Search.{both, no-way}
+use Rattle.whole.proofs.Linear.{and-true, no-ft}
 
 -- ---- a place in which one kind may stand
 
@@ -35,13 +35,13 @@ pick-test t false a b h k = k
 of-kind : (t : Layout → Bool) (ls : List Layout) (k : ℕ) → t noLayout ≡ true → allOf t ls ≡ true → t (ofKind ls k) ≡ true
 of-kind t [] k n h = n
 of-kind t (l ∷ ls) k n h =
-    let w = both (t l) (allOf t ls) h in
+    let w = and-true (t l) (allOf t ls) h in
     pick-test t (eqb k (l .kind)) l (ofKind ls k) (w .0) (of-kind t ls k n (w .1))
 
 in-place : (t : Layout → Bool) (rest : List (List Layout)) (p k : ℕ) → t noLayout ≡ true → allIn t rest ≡ true → t (ofKind (getD rest p []) k) ≡ true
 in-place t [] p k n h = n
-in-place t (ls ∷ rest) zero k n h = of-kind t ls k n (both (allOf t ls) (allIn t rest) h .0)
-in-place t (ls ∷ rest) (suc p) k n h = in-place t rest p k n (both (allOf t ls) (allIn t rest) h .1)
+in-place t (ls ∷ rest) zero k n h = of-kind t ls k n (and-true (allOf t ls) (allIn t rest) h .0)
+in-place t (ls ∷ rest) (suc p) k n h = in-place t rest p k n (and-true (allOf t ls) (allIn t rest) h .1)
 
 -- few fields, few records, and at least one
 small : Layout → Bool
@@ -53,15 +53,15 @@ small-in p k = in-place small places p k refl refl
 
 pub size-small : (p k : ℕ) → length (layoutIn p k .fields) ≤ 8
 unfolding small
-size-small p k = leb-true _ _ (both _ _ (small-in p k) .0)
+size-small p k = leb-true _ _ (and-true _ _ (small-in p k) .0)
 
 pub most-small : (p k : ℕ) → layoutIn p k .most ≤ 256
 unfolding small
-most-small p k = leb-true _ _ (both _ _ (both (leb (length (layoutIn p k .fields)) 8) _ (small-in p k) .1) .0)
+most-small p k = leb-true _ _ (and-true _ _ (and-true (leb (length (layoutIn p k .fields)) 8) _ (small-in p k) .1) .0)
 
 pub fewest-one : (p k : ℕ) → 1 ≤ layoutIn p k .fewest
 unfolding small
-fewest-one p k = leb-true _ _ (both (leb (layoutIn p k .most) 256) _ (both (leb (length (layoutIn p k .fields)) 8) _ (small-in p k) .1) .1)
+fewest-one p k = leb-true _ _ (and-true (leb (layoutIn p k .most) 256) _ (and-true (leb (length (layoutIn p k .fields)) 8) _ (small-in p k) .1) .1)
 
 -- ---- a kind stands in a place where its layout has fields
 
@@ -76,13 +76,13 @@ any-some : (ls : List Layout) (k : ℕ) → allOf some ls ≡ true → anyOfKind
 unfolding noLayout some
 any-some [] k h = refl
 any-some (l ∷ ls) k h =
-    let w = both (some l) (allOf some ls) h in
+    let w = and-true (some l) (allOf some ls) h in
     pick-some (eqb k (l .kind)) l (ofKind ls k) (anyOfKind ls k) (w .0) (any-some ls k (w .1))
 
 place-some : (rest : List (List Layout)) (p k : ℕ) → allIn some rest ≡ true → anyOfKind (getD rest p []) k ≡ some (ofKind (getD rest p []) k)
 place-some [] p k h = any-some [] k refl
-place-some (ls ∷ rest) zero k h = any-some ls k (both (allOf some ls) (allIn some rest) h .0)
-place-some (ls ∷ rest) (suc p) k h = place-some rest p k (both (allOf some ls) (allIn some rest) h .1)
+place-some (ls ∷ rest) zero k h = any-some ls k (and-true (allOf some ls) (allIn some rest) h .0)
+place-some (ls ∷ rest) (suc p) k h = place-some rest p k (and-true (allOf some ls) (allIn some rest) h .1)
 
 pub stands-some : (p k : ℕ) → standsIn p k ≡ ltb 0 (length (layoutIn p k .fields))
 unfolding layoutIn standsIn places station source orientation pass some
@@ -92,7 +92,7 @@ stands-some p k = place-some places p k refl
 
 only : (l : Layout) (k : ℕ) (b : Bool) → eqb k (l .kind) ≡ b → cond b true false ≡ true → ofKind (l ∷ []) k ≡ l
 only l k true e h = rw e
-only l k false e h = no-way h
+only l k false e h = no-ft h
 
 module _ (k : ℕ) where
   pub in-first : standsIn 0 k ≡ true → layoutIn 0 k ≡ station
@@ -122,15 +122,15 @@ any-low′ l ls k true e h r m = omega (arith, eqb-true k (l .kind) e, leb-true 
 any-low′ l ls k false e h r m = r m
 
 any-low : (ls : List Layout) (k : ℕ) → allOf low ls ≡ true → anyOfKind ls k ≡ true → k ≤ 255
-any-low [] k h m = no-way m
+any-low [] k h m = no-ft m
 any-low (l ∷ ls) k h m =
-    let w = both (low l) (allOf low ls) h in
+    let w = and-true (low l) (allOf low ls) h in
     any-low′ l ls k (eqb k (l .kind)) refl (w .0) (any-low ls k (w .1)) m
 
 place-low : (rest : List (List Layout)) (p k : ℕ) → allIn low rest ≡ true → anyOfKind (getD rest p []) k ≡ true → k ≤ 255
-place-low [] p k h m = no-way m
-place-low (ls ∷ rest) zero k h m = any-low ls k (both (allOf low ls) (allIn low rest) h .0) m
-place-low (ls ∷ rest) (suc p) k h m = place-low rest p k (both (allOf low ls) (allIn low rest) h .1) m
+place-low [] p k h m = no-ft m
+place-low (ls ∷ rest) zero k h m = any-low ls k (and-true (allOf low ls) (allIn low rest) h .0) m
+place-low (ls ∷ rest) (suc p) k h m = place-low rest p k (and-true (allOf low ls) (allIn low rest) h .1) m
 
 pub kind-small : (p k : ℕ) → standsIn p k ≡ true → k ≤ 255
 unfolding standsIn places station source orientation pass low

@@ -12,12 +12,13 @@ use lib.IntN.{ℤ, pos}
 use lib.Signed.{leZ}
 use lib.Dec.{leb, ltb, eqb}
 use borrow.Author.Tests.{leb-true, ltb-true, eqb-true}
-use Rattle.sections.specs.Each.{allBelow, firstNot}
+use Rattle.whole.specs.Each.{allBelow, firstNot}
 use Rattle.sections.specs.Words.{numberAt}
-use Rattle.sections.specs.Layouts.{Range, range, Layout, padded, shapeOf, standsIn}
+use Rattle.sections.specs.Layouts.{Range, range, Layout, standsIn}
+use Rattle.sections.specs.Code.{padded, shapeOf, insideBy, recordBy, stepBy}
 use Rattle.sections.specs.File.{present, layoutOf, sizeOf, countOf, kindOf, firstByte, startOf, sectionsRight, kindRight, offsetRight, countRight, lengthRight, kindsRight, countsRight, offsetsRight, contentsRight, recordByte, fieldAt, rangeOf, fieldRight, recordRight, steps, stepRight}
-use Rattle.sections.specs.Code.{insideBy, recordBy, stepBy}
-use Rattle.sections.proofs.Search.{both, below-each, first-same, all-same}
+use Rattle.whole.proofs.Linear.{and-true}
+use Rattle.whole.proofs.Each.{below-each, first-same, all-same}
 use Rattle.sections.proofs.Shapes.{size-small, stands-some}
 use Rattle.sections.proofs.Walk.{count-present, count-most, count-one}
 
@@ -30,19 +31,19 @@ module _ (s : List ℕ) (h : contentsRight s ≡ true) where
   pub five : (sectionsRight s ≡ true) × (kindsRight s ≡ true) × (countsRight s ≡ true) × (offsetsRight s ≡ true) × (lengthRight s ≡ true)
   unfolding contentsRight
   five =
-      let a = both (sectionsRight s) _ h in
-      let b = both (kindsRight s) _ (a .1) in
-      let c = both (countsRight s) _ (b .1) in
-      let d = both (offsetsRight s) (lengthRight s) (c .1) in
+      let a = and-true (sectionsRight s) _ h in
+      let b = and-true (kindsRight s) _ (a .1) in
+      let c = and-true (countsRight s) _ (b .1) in
+      let d = and-true (offsetsRight s) (lengthRight s) (c .1) in
       (a .0, b .0, c .0, d .0, d .1)
 
   pub length-is : length s ≡ startOf s 4
   unfolding lengthRight
-  length-is = eqb-true _ _ (both (leb (length s) 65536) _ (five .4) .1)
+  length-is = eqb-true _ _ (and-true (leb (length s) 65536) _ (five .4) .1)
 
   pub length-short : length s ≤ 65536
   unfolding lengthRight
-  length-short = leb-true _ _ (both (leb (length s) 65536) _ (five .4) .0)
+  length-short = leb-true _ _ (and-true (leb (length s) 65536) _ (five .4) .0)
 
   module _ (p : ℕ) (l : p < 4) where
     pub count-is-right : countRight s p ≡ true
@@ -50,11 +51,11 @@ module _ (s : List ℕ) (h : contentsRight s ≡ true) where
 
     pub kind-stands : standsIn p (kindOf s p) ≡ true
     unfolding kindRight
-    kind-stands = both (present s (3 * p + 1)) _ (below-each 4 p (kindRight s) l (five .1)) .1
+    kind-stands = and-true (present s (3 * p + 1)) _ (below-each 4 p (kindRight s) l (five .1)) .1
 
     pub first-is : firstByte s p ≡ startOf s p
     unfolding offsetRight
-    first-is = eqb-true _ _ (both (present s (3 * p + 2)) _ (below-each 4 p (offsetRight s) l (five .3)) .1)
+    first-is = eqb-true _ _ (and-true (present s (3 * p + 2)) _ (below-each 4 p (offsetRight s) l (five .3)) .1)
 
     pub table-long : 8 * (3 * p + 3) + 8 ≤ length s
     table-long = count-present s p count-is-right

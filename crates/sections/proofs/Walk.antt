@@ -11,11 +11,12 @@ use mathlib.Core.Logic.{_⊎_, inl, inr, ⊎-elim}
 use native.Mathlib.Numerals.{add-one}
 use borrow.Author.Tests.{leb-true, lt-ltb, le-ltb}
 use Rattle.whole.proofs.Products.{below}
-use Rattle.sections.specs.Each.{firstNot}
+use Rattle.whole.specs.Each.{firstNot}
 use Rattle.sections.specs.Layouts.{layoutIn}
 use Rattle.sections.specs.File.{present, layoutOf, sizeOf, countOf, kindOf, sectionsRight, kindRight, offsetRight, countRight, lengthRight}
 use Rattle.sections.specs.Table.{entryRight, wordRight, wrongWord}
-use Rattle.sections.proofs.Search.{both, first-zero, first-next, first-hit, first-stays, first-add, first-before, first-most}
+use Rattle.whole.proofs.Linear.{and-true}
+use Rattle.whole.proofs.Each.{first-zero, first-next, first-hit, first-stays, first-add, first-before, first-most}
 use Rattle.sections.proofs.Shapes.{size-small, most-small, fewest-one}
 
 -- ---- a count that is right
@@ -24,8 +25,8 @@ module _ (s : List ℕ) (p : ℕ) (h : countRight s p ≡ true) where
   parts : (present s (3 * p + 3) ≡ true) × (leb (layoutOf s p .fewest) (countOf s p) ≡ true) × (leb (countOf s p) (layoutOf s p .most) ≡ true)
   unfolding countRight
   parts =
-      let a = both (present s (3 * p + 3)) _ h in
-      let b = both (leb (layoutOf s p .fewest) (countOf s p)) _ (a .1) in
+      let a = and-true (present s (3 * p + 3)) _ h in
+      let b = and-true (leb (layoutOf s p .fewest) (countOf s p)) _ (a .1) in
       (a .0, b .0, b .1)
 
   pub count-present : 8 * (3 * p + 3) + 8 ≤ length s

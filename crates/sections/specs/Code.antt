@@ -1,13 +1,35 @@
--- What the inner loops of the code give, said of bytes and plain numbers; laws show it to be what the file's definitions say.
+-- What the code holds and what its inner functions give, said of bytes and plain numbers; laws show it to be what the file's definitions say.
 use Prim.Native.Nat.{ℕ, _+_, _*_}
-use mathlib.Core.Bool.{Bool, not, _&&_}
-use mathlib.Core.List.{List}
-use lib.ListN.{getD}
+use mathlib.Core.Bool.{Bool, not, _&&_, cond}
+use mathlib.Core.List.{List, _++_, map}
+use lib.ListN.{length, getD, take, replicate}
 use lib.IntN.{ℤ, pos}
 use lib.Signed.{leZ}
-use Rattle.sections.specs.Each.{allBelow}
+use lib.Dec.{eqb}
+use Rattle.whole.specs.Each.{allBelow}
 use Rattle.sections.specs.Words.{numberAt}
-use Rattle.sections.specs.File.{steps, eqZ}
+use Rattle.sections.specs.declared.layouts.Shape.{Shape}
+use Rattle.sections.specs.Layouts.{Range, Layout}
+use Rattle.sections.specs.File.{steps, eqZ, rangesRight, idsRight, daysRight}
+
+-- ---- a layout as the code holds it
+
+-- n numbers: those of zs, and zeros behind them
+abbrev pub padded : ℕ → List ℤ → List ℤ
+padded n zs = take n (zs ++ replicate n (pos 0))
+
+unfoldable pub shapeOf : Layout → Shape
+shapeOf l =
+    record {
+      size = length (l .fields);
+      fewest = l .fewest;
+      most = l .most;
+      order = l .order;
+      low = padded 8 (map (λ (r : Range). r .low) (l .fields));
+      high = padded 8 (map (λ (r : Range). r .high) (l .fields));
+    }
+
+-- ---- the loops over bytes
 
 -- number k from byte at on lies between the k-th of low and the k-th of high
 abbrev pub insideBy : List ℕ → ℕ → List ℤ → List ℤ → ℕ → Bool
@@ -24,3 +46,13 @@ stepBy s at size o i = steps o (numberAt s (at + 8 * (size * i))) (numberAt s (a
 -- the first number of record i is another than z
 abbrev pub otherBy : List ℕ → ℕ → ℕ → ℤ → ℕ → Bool
 otherBy s at size z i = not (eqZ (numberAt s (at + 8 * (size * i))) z)
+
+-- ---- the tests in their order
+
+-- the test behind refusal n of a file whose contents table is right: 2 ranges, 3 ids, 4 days
+abbrev pub testPassed : List ℕ → ℕ → Bool
+testPassed s n = cond (eqb n 2) (rangesRight s) (cond (eqb n 3) (idsRight s) (daysRight s))
+
+-- of the tests behind the refusals a, b and c, made in this order, the first that fails, or 0
+abbrev pub firstFailed : List ℕ → ℕ → ℕ → ℕ → ℕ
+firstFailed s a b c = cond (testPassed s a) (cond (testPassed s b) (cond (testPassed s c) 0 c) b) a

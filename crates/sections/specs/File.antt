@@ -7,7 +7,7 @@ use lib.ListN.{length, getD}
 use lib.IntN.{ℤ, pos, _+ℤ_}
 use lib.Signed.{leZ, ltZ}
 use lib.Dec.{leb, eqb}
-use Rattle.sections.specs.Each.{allBelow, implies}
+use Rattle.whole.specs.Each.{allBelow, implies}
 use Rattle.sections.specs.Words.{numberAt, word}
 use Rattle.sections.specs.Layouts.{Range, Layout, layoutIn, standsIn, rising, consecutive, range}
 
@@ -44,9 +44,11 @@ startOf s (suc p) = startOf s p + 8 * (sizeOf s p * countOf s p)
 abbrev pub present : List ℕ → ℕ → Bool
 present s j = leb (8 * j + 8) (length s)
 
+-- n is at least low and at most high
 abbrev pub between : ℕ → ℕ → ℕ → Bool
 between low high n = leb low n && leb n high
 
+-- the number of sections, and of place p the kind, the first byte and the count
 unfoldable pub sectionsRight : List ℕ → Bool
 sectionsRight s = present s 0 && eqb (sectionsOf s) 4
 
@@ -72,6 +74,7 @@ countsRight s = allBelow 4 (countRight s)
 abbrev pub offsetsRight : List ℕ → Bool
 offsetsRight s = allBelow 4 (offsetRight s)
 
+-- "contents table or length not as above, counts included" is 1
 unfoldable pub contentsRight : List ℕ → Bool
 contentsRight s = sectionsRight s && (kindsRight s && (countsRight s && (offsetsRight s && lengthRight s)))
 
@@ -84,6 +87,7 @@ recordByte s p i = firstByte s p + 8 * (sizeOf s p * i)
 abbrev pub fieldAt : List ℕ → ℕ → ℕ → ℕ → ℤ
 fieldAt s p i k = numberAt s (recordByte s p i + 8 * k)
 
+-- a field lies in its range, so do all of a record, of a section, and of the file
 abbrev pub inside : Range → ℤ → Bool
 inside r z = leZ (r .low) z && leZ z (r .high)
 
@@ -99,18 +103,21 @@ recordRight s p i = allBelow (sizeOf s p) (fieldRight s p i)
 unfoldable pub sectionRight : List ℕ → ℕ → Bool
 sectionRight s p = allBelow (countOf s p) (recordRight s p)
 
+-- "a field ... outside its range" is 2
 unfoldable pub rangesRight : List ℕ → Bool
 rangesRight s = allBelow 4 (sectionRight s)
 
 -- ---- the order of ids and of days
 
+-- a is b
 abbrev pub eqZ : ℤ → ℤ → Bool
 eqZ a b = leZ a b && leZ b a
 
--- b may stand behind a, in this order
+-- b may stand behind a: where the order is to rise it is the greater, where it is to be consecutive the next number
 unfoldable pub steps : ℕ → ℤ → ℤ → Bool
 steps o a b = implies (eqb o rising) (ltZ a b) && implies (eqb o consecutive) (eqZ b (a +ℤ pos 1))
 
+-- record i + 1 of place p may stand behind record i
 unfoldable pub stepRight : List ℕ → ℕ → ℕ → ℕ → Bool
 stepRight s o p i = steps o (fieldAt s p i 0) (fieldAt s p (i + 1) 0)
 
@@ -118,16 +125,16 @@ stepRight s o p i = steps o (fieldAt s p i 0) (fieldAt s p (i + 1) 0)
 unfoldable pub orderRight : List ℕ → ℕ → ℕ → Bool
 orderRight s o p = implies (eqb (layoutOf s p .order) o) (allBelow (countOf s p - 1) (stepRight s o p))
 
--- "ids ... in sections 1 and 2 each above the one before"
+-- "ids ... in sections 1 and 2 each above the one before"; "ids do not rise" is 3
 abbrev pub idsRight : List ℕ → Bool
 idsRight s = allBelow 4 (orderRight s rising)
 
--- orientation days consecutive
+-- "orientation days not consecutive" is 4
 abbrev pub daysRight : List ℕ → Bool
 daysRight s = allBelow 4 (orderRight s consecutive)
 
 -- ---- "The lowest number that applies is given"
 
--- 0 for a file that is accepted, or its refusal
+-- 0 for a file that is accepted
 unfoldable pub refusalOf : List ℕ → ℕ
 refusalOf s = cond (contentsRight s) (cond (rangesRight s) (cond (idsRight s) (cond (daysRight s) 0 4) 3) 2) 1

@@ -2,11 +2,10 @@
 -- The contents table, the length, the ranges, the order, the fault and the writer all go by `places`.
 use Prim.Native.Nat.{ℕ}
 use mathlib.Core.Bool.{Bool, true, false, cond}
-use mathlib.Core.List.{List, [], _∷_, _++_, map}
-use lib.ListN.{length, getD, take, replicate}
-use lib.IntN.{ℤ, pos, negsuc, negℤ}
+use mathlib.Core.List.{List, [], _∷_}
+use lib.ListN.{getD}
+use lib.IntN.{ℤ, pos, negℤ}
 use lib.Dec.{eqb}
-use Rattle.sections.specs.declared.layouts.Shape.{Shape}
 
 -- the values that a field may have, both ends taken in
 pub record Range : Type 0 where
@@ -119,20 +118,3 @@ layoutIn p k = ofKind (getD places p []) k
 
 unfoldable pub standsIn : ℕ → ℕ → Bool
 standsIn p k = anyOfKind (getD places p []) k
-
--- ---- a layout as the code holds it
-
--- n numbers: those of zs, and zeros behind them
-abbrev pub padded : ℕ → List ℤ → List ℤ
-padded n zs = take n (zs ++ replicate n (pos 0))
-
-unfoldable pub shapeOf : Layout → Shape
-shapeOf l =
-    record {
-      size = length (l .fields);
-      fewest = l .fewest;
-      most = l .most;
-      order = l .order;
-      low = padded 8 (map (λ (r : Range). r .low) (l .fields));
-      high = padded 8 (map (λ (r : Range). r .high) (l .fields));
-    }

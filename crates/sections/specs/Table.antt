@@ -3,7 +3,7 @@ use Prim.Native.Nat.{ℕ, zero, suc, _/_, _%_}
 use mathlib.Core.Bool.{Bool, cond}
 use mathlib.Core.List.{List}
 use lib.Dec.{ltb}
-use Rattle.sections.specs.Each.{firstNot}
+use Rattle.whole.specs.Each.{firstNot}
 use Rattle.sections.specs.File.{sectionsRight, kindRight, offsetRight, countRight, lengthRight}
 
 -- of place p: its kind, its first byte, its count

@@ -1,7 +1,8 @@
 // The shape of a session file, as data: what may stand in each of the four places. A further kind is a further entry.
 ghost use mathlib.Core.Path.{_≡_};
 ghost use Prim.Native.Nat.{_<_};
-ghost use Rattle.sections.specs.Layouts.{station, source, orientation, pass, noLayout, layoutIn, shapeOf};
+ghost use Rattle.sections.specs.Layouts.{station, source, orientation, pass, noLayout, layoutIn};
+ghost use Rattle.sections.specs.Code.{shapeOf};
 
 // A kind's records: how many numbers each has, the least and the greatest count, their order, and each number's range, 0 beyond the last.
 pub struct Shape {

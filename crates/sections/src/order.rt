@@ -5,7 +5,7 @@ ghost use Prim.Native.Nat.{_+_, _-_, _*_, _<_, _≤_};
 ghost use lib.ListN.{length};
 ghost use lib.IntN.{pos, _+ℤ_};
 ghost use lib.Signed.{ltZ};
-ghost use Rattle.sections.specs.Each.{firstNot};
+ghost use Rattle.whole.specs.Each.{firstNot};
 ghost use Rattle.sections.specs.Code.{stepBy};
 ghost use Rattle.sections.specs.File.{contentsRight, countOf, eqZ, steps, stepRight, orderRight};
 use crate::contents::layout_of;

@@ -4,7 +4,7 @@ ghost use mathlib.Core.Bool.{true, _&&_};
 ghost use Prim.Native.Nat.{_+_, _*_, _<_, _≤_};
 ghost use lib.ListN.{length};
 ghost use lib.Signed.{leZ};
-ghost use Rattle.sections.specs.Each.{firstNot};
+ghost use Rattle.whole.specs.Each.{firstNot};
 ghost use Rattle.sections.specs.Code.{insideBy, recordBy};
 ghost use Rattle.sections.specs.File.{contentsRight, countOf, sizeOf, fieldRight, recordRight, sectionRight};
 use crate::contents::layout_of;
@@ -43,7 +43,7 @@ pub fn first_outside(s: &[u8], at: usize, size: usize, low: &[i64; 8], high: &[i
     k
 }
 
-// The first of n records of size numbers from byte at on with a number out of its range, or n.
+// The first of n records, one at least, of size numbers from byte at on with a number out of its range, or n.
 fn first_record(
     s: &[u8],
     at: usize,
@@ -52,11 +52,12 @@ fn first_record(
     low: &[i64; 8],
     high: &[i64; 8],
 ) -> usize
-    requires { ⌜ (at + 8 * (size * n) ≤ length (now s)) × (size ≤ 8) ⌝ }
+    requires { ⌜ (at + 8 * (size * n) ≤ length (now s)) × (size ≤ 8) × (0 < n) ⌝ }
     ensures { λ r. ⌜ r ≡ firstNot n (recordBy (now (s .entry)) at size (now (low .entry)) (now (high .entry))) ⌝ }
 {
+    let last = n - 1;
     let mut i: usize = 0;
-    while i < n {
+    while i <= last {
         if first_outside(s, at + 8 * (size * i), size, low, high) < size {
             return i;
         }

@@ -6,16 +6,18 @@ use native.Mathlib.Decide.{ℕ-discrete}
 use mathlib.Core.Bool.{Bool, true, false, cond}
 use mathlib.Core.List.{List}
 use lib.IntN.{ℤ, pos}
-use Rattle.sections.specs.Each.{firstNot, allBelow, implies}
+use Rattle.whole.specs.Each.{firstNot, allBelow, implies}
 use lib.Dec.{eqb}
 use Rattle.sections.specs.Layouts.{rising, consecutive}
 use Rattle.sections.specs.File.{sectionRight, recordRight, fieldRight, orderRight, stepRight, countOf, sizeOf, refusalOf, contentsRight, rangesRight, idsRight, daysRight, kindOf, layoutOf, lengthRight}
 use Rattle.session.specs.declared.Counts.{Counts}
 use Rattle.session.specs.Records.{checkOf, countsIn, noCounts}
 use Rattle.sections.specs.Table.{wordRight, wrongWord}
+use Rattle.sections.proofs.Accepted.{byTests, refusal-most}
 use Rattle.sections.proofs.Walk.{wrong-is, wrong-length-is}
 use Rattle.session.specs.Fault.{placeOf, rangeFault, orderFault, faultBy, faultOf, rangeRecord, rangeField}
-use Rattle.sections.proofs.Search.{first-fails, first-before, not-all, no-way}
+use Rattle.whole.proofs.Linear.{no-ft}
+use Rattle.whole.proofs.Each.{first-fails, first-before, not-all}
 use Rattle.session.proofs.Answers.{check-refused, check-accepted}
 
 -- ---- by the number
@@ -56,21 +58,6 @@ by-number s (suc (suc zero)) h = refl
 by-number s (suc (suc (suc zero))) h = refl
 by-number s (suc (suc (suc (suc zero)))) h = refl
 by-number s (suc (suc (suc (suc (suc n))))) h = absurd (omega arith)
-
--- the number by the four tests
-abbrev byTests : Bool → Bool → Bool → Bool → ℕ
-byTests a b c d = cond a (cond b (cond c (cond d 0 4) 3) 2) 1
-
-most : (a b c d : Bool) → byTests a b c d ≤ 4
-most false b c d = omega arith
-most true false c d = omega arith
-most true true false d = omega arith
-most true true true false = omega arith
-most true true true true = omega arith
-
-pub refusal-most : (s : List ℕ) → refusalOf s ≤ 4
-unfolding refusalOf
-refusal-most s = most (contentsRight s) (rangesRight s) (idsRight s) (daysRight s)
 
 check-number : (s : List ℕ) → Dec (refusalOf s ≡ 0) → checkOf s .refusal ≡ pos (refusalOf s)
 check-number s (yes h) = ap (λ (c : Counts). c .refusal) (check-accepted s h) ∙ ap pos (sym h)
@@ -130,7 +117,7 @@ pub record OutOfOrder (s : List ℕ) (o p i : ℕ) : Type 0 where
 
 implied : (a b : Bool) → implies a b ≡ false → b ≡ false
 implied true b h = h
-implied false b h = no-way (sym h)
+implied false b h = no-ft (sym h)
 
 out-of-order : (s : List ℕ) (o : ℕ) → allBelow 4 (orderRight s o) ≡ false
     → OutOfOrder s o (firstNot 4 (orderRight s o)) (firstNot (countOf s (firstNot 4 (orderRight s o)) - 1) (stepRight s o (firstNot 4 (orderRight s o))))

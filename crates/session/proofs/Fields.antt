@@ -11,13 +11,13 @@ use lib.Signed.{mag}
 use mir.Syntax.{w64}
 use mir.Val.{toZ, ofZ}
 use Rattle.whole.proofs.Linear.{ret}
-use Rattle.sections.specs.Each.{firstNot}
+use Rattle.whole.specs.Each.{firstNot}
 use Rattle.sections.specs.Words.{numberAt}
 use Rattle.sections.specs.Layouts.{Layout, station, source, orientation, pass}
 use Rattle.sections.specs.File.{contentsRight, kindOf, layoutOf, sizeOf, firstByte, countOf, recordByte, fieldAt, eqZ, refusalOf}
 use Rattle.sections.specs.Code.{otherBy}
 use Rattle.session.specs.Records.{placeBy}
-use Rattle.sections.proofs.Search.{first-same}
+use Rattle.whole.proofs.Each.{first-same}
 use Rattle.sections.proofs.Shapes.{in-first, in-second, in-third, in-fourth}
 use Rattle.sections.proofs.Sound.{kind-stands}
 use Rattle.sections.proofs.Accepted.{accepted-contents}
@@ -51,9 +51,9 @@ module _ (s : List ℕ) (h : refusalOf s ≡ 0) where
   unfolding pass
   size-fourth = ap (λ (l : Layout). length (l .fields)) layout-fourth
 
--- a number that was read of a record that starts at b, put into a struct
-pub field-back : (s : List ℕ) (r : ℤ) (a b k : ℕ) → mag r < 2 ^ 63 → r ≡ numberAt s (a + 8 * k) → a ≡ b → toZ w64 (ofZ w64 r) ≡ numberAt s (b + 8 * k)
-field-back s r a b k f e g = ret r f ∙ e ∙ ap (λ (n : ℕ). numberAt s (n + 8 * k)) g
+-- field k of a record that starts at b, read at byte n and put into a struct
+pub field-back : (s : List ℕ) (r : ℤ) (n b k : ℕ) → mag r < 2 ^ 63 → r ≡ numberAt s n → n ≡ b + 8 * k → toZ w64 (ofZ w64 r) ≡ numberAt s (b + 8 * k)
+field-back s r n b k f e g = ret r f ∙ e ∙ ap (numberAt s) g
 
 -- the search for a record, over bytes
 pub places-same : (s : List ℕ) (p : ℕ) (z : ℤ) → firstNot (countOf s p) (otherBy s (firstByte s p) (sizeOf s p) z) ≡ placeBy s p z

@@ -16,11 +16,11 @@ use mir.Syntax.{w64}
 use mir.Val.{SFits}
 use borrow.Author.Tests.{lt-ltb, le-ltb, ltb-true, eqb-true, eq-eqb}
 use Rattle.whole.specs.Whole.{P, N, ∣_∣}
-use Rattle.whole.proofs.Linear.{add-law, ltZ-true, leZ-true, ⇒eq, eq⇒, P-neg, N-neg}
-use Rattle.sections.specs.Each.{allBelow, firstNot, implies}
+use Rattle.whole.proofs.Linear.{add-law, ltZ-true, leZ-true, ⇒eq, eq⇒, P-neg, N-neg, and-true, no-ft}
+use Rattle.whole.specs.Each.{allBelow, firstNot, implies}
 use Rattle.sections.specs.Layouts.{Range, range, within, Layout, station, source, orientation, pass, rising, consecutive}
 use Rattle.sections.specs.File.{refusalOf, countOf, sizeOf, layoutOf, rangeOf, fieldAt, inside, eqZ, rangesRight, sectionRight, recordRight, fieldRight, steps, stepRight, orderRight}
-use Rattle.sections.proofs.Search.{both, below-each, first-hit, all-none, below-all, no-way, none-all, first-fails, first-before, first-most}
+use Rattle.whole.proofs.Each.{below-each, first-hit, all-none, below-all, none-all, first-fails, first-before, first-most}
 use Rattle.sections.proofs.Numbers.{steps-rising, steps-consecutive, eqZ-true, eqZ-refl}
 use Rattle.sections.proofs.Accepted.{accepted-contents, accepted-ranges, accepted-ids, accepted-days}
 use Rattle.session.specs.declared.Station.{Station}
@@ -43,16 +43,16 @@ pub record Natural (a b : ℕ) (z : ℤ) : Type 0 where
 
 pub range-natural : (a b : ℕ) (z : ℤ) → inside (range a b) z ≡ true → Natural a b z
 range-natural a b (pos n) h =
-    let w = both (leZ (pos a) (pos n)) (leZ (pos n) (pos b)) h in
+    let w = and-true (leZ (pos a) (pos n)) (leZ (pos n) (pos b)) h in
     let x = leZ-true (pos a) (pos n) (w .0) in
     let y = leZ-true (pos n) (pos b) (w .1) in
     record { value = n; is = refl; least = omega arith; most = omega arith }
-range-natural a b (negsuc n) h = no-way h
+range-natural a b (negsuc n) h = no-ft h
 
 pub within-abs : (k : ℕ) (z : ℤ) → inside (within k) z ≡ true → ∣ z ∣ ≤ k
-within-abs k (pos n) h = let x = leZ-true (pos n) (pos k) (both (leZ (negℤ (pos k)) (pos n)) _ h .1) in omega arith
+within-abs k (pos n) h = let x = leZ-true (pos n) (pos k) (and-true (leZ (negℤ (pos k)) (pos n)) _ h .1) in omega arith
 within-abs k (negsuc n) h =
-    let x = leZ-true (negℤ (pos k)) (negsuc n) (both (leZ (negℤ (pos k)) (negsuc n)) _ h .0) in
+    let x = leZ-true (negℤ (pos k)) (negsuc n) (and-true (leZ (negℤ (pos k)) (negsuc n)) _ h .0) in
     omega (arith, P-neg (pos k), N-neg (pos k))
 
 -- ---- each field of an accepted record is in its range

@@ -2,7 +2,7 @@
 use Prim.Native.Nat.{ℕ, zero, suc, _+_, _-_}
 use mathlib.Core.List.{List}
 use lib.IntN.{ℤ, pos}
-use Rattle.sections.specs.Each.{firstNot}
+use Rattle.whole.specs.Each.{firstNot}
 use Rattle.sections.specs.Table.{wrongWord}
 use Rattle.sections.specs.Layouts.{rising, consecutive}
 use Rattle.session.specs.declared.Place.{Place}
@@ -27,7 +27,8 @@ rangeFault s p = placeOf 2 (kindOf s p) (rangeRecord s p) (rangeField s p)
 unfoldable pub orderFault : List ℕ → ℕ → ℕ → ℕ → Place
 orderFault s p o n = placeOf n (kindOf s p) (firstNot (countOf s p - 1) (stepRight s o p) + 1) 0
 
--- by the number, in the first place at which it arises; zeros for a file that is accepted; for 1 the field is the wrong word, or 13 for the length
+-- zeros for a file that is accepted; for 1 the field is the first wrong word of the contents table, 0 to 12, or 13 for the length;
+-- for 2, 3 and 4 the first place at which the number arises
 unfoldable pub faultBy : List ℕ → ℕ → Place
 faultBy s zero = placeOf 0 0 0 0
 faultBy s (suc zero) = placeOf 1 0 0 (wrongWord s)

@@ -4,7 +4,7 @@ use mathlib.Core.Bool.{Bool, true, false, not, cond}
 use mathlib.Core.List.{List}
 use lib.IntN.{ℤ, pos}
 use lib.Dec.{ltb, eqb}
-use Rattle.sections.specs.Each.{firstNot}
+use Rattle.whole.specs.Each.{firstNot}
 use Rattle.sections.specs.File.{refusalOf, countOf, fieldAt, eqZ}
 use Rattle.session.specs.declared.Counts.{Counts}
 use Rattle.session.specs.declared.Station.{Station}

@@ -3,7 +3,7 @@ ghost use mathlib.Core.Path.{_≡_};
 ghost use mathlib.Core.Bool.{true};
 ghost use Prim.Native.Nat.{_+_, _-_, _<_, _≤_};
 ghost use lib.IntN.{pos};
-ghost use Rattle.sections.specs.Each.{firstNot};
+ghost use Rattle.whole.specs.Each.{firstNot};
 ghost use Rattle.sections.specs.File.{contentsRight, countOf, sizeOf, kindOf, fieldRight, recordRight, stepRight};
 ghost use Rattle.session.specs.Fault.{rangeFault, orderFault};
 use crate::Place;

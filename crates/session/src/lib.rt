@@ -10,6 +10,10 @@ use faults::order_fault;
 use faults::range_fault;
 use records::asked;
 use records::day_of;
+use records::no_day;
+use records::no_pass;
+use records::no_source;
+use records::no_station;
 use records::pass_of;
 use records::source_of;
 use records::station_of;
@@ -105,16 +109,10 @@ pub fn station_at(file: &[u8], index: usize) -> Station
     ensures { λ r. ⌜ r ≡ stationAt (now (file .entry)) index ⌝ }
 {
     let n = asked(file, 0, index);
-    if n != 0 {
-        return Station {
-            refusal: number(n),
-            id: 0,
-            x: 0,
-            y: 0,
-            z: 0,
-        };
+    if n == 0 {
+        return station_of(file, index);
     }
-    station_of(file, index)
+    no_station(n)
 }
 
 // Source index, counted from 0, of a file; 5 beyond the last.
@@ -122,15 +120,10 @@ pub fn source_at(file: &[u8], index: usize) -> Source
     ensures { λ r. ⌜ r ≡ sourceAt (now (file .entry)) index ⌝ }
 {
     let n = asked(file, 1, index);
-    if n != 0 {
-        return Source {
-            refusal: number(n),
-            id: 0,
-            right_ascension: 0,
-            declination: 0,
-        };
+    if n == 0 {
+        return source_of(file, index);
     }
-    source_of(file, index)
+    no_source(n)
 }
 
 // Orientation record index, counted from 0, of a file; 5 beyond the last.
@@ -138,17 +131,10 @@ pub fn day_at(file: &[u8], index: usize) -> Day
     ensures { λ r. ⌜ r ≡ dayAt (now (file .entry)) index ⌝ }
 {
     let n = asked(file, 2, index);
-    if n != 0 {
-        return Day {
-            refusal: number(n),
-            mjd: 0,
-            x: 0,
-            y: 0,
-            ut1_utc: 0,
-            tai_utc: 0,
-        };
+    if n == 0 {
+        return day_of(file, index);
     }
-    day_of(file, index)
+    no_day(n)
 }
 
 // Pass index, counted from 0, of a file; 5 beyond the last.
@@ -156,20 +142,10 @@ pub fn pass_at(file: &[u8], index: usize) -> Pass
     ensures { λ r. ⌜ r ≡ passAt (now (file .entry)) index ⌝ }
 {
     let n = asked(file, 3, index);
-    if n != 0 {
-        return Pass {
-            refusal: number(n),
-            station1: 0,
-            station2: 0,
-            source: 0,
-            mjd: 0,
-            ms: 0,
-            step: 0,
-            samples: 0,
-            tolerance: 0,
-        };
+    if n == 0 {
+        return pass_of(file, index);
     }
-    pass_of(file, index)
+    no_pass(n)
 }
 
 // Where the number that `check` gives arises first; zeros for a file that is accepted.

@@ -3,11 +3,11 @@ ghost use mathlib.Core.Path.{_≡_};
 ghost use mathlib.Core.Bool.{not};
 ghost use Prim.Native.Nat.{ℕ, _+_, _*_, _<_, _≤_};
 ghost use lib.ListN.{length};
-ghost use Rattle.sections.specs.Each.{firstNot};
+ghost use Rattle.whole.specs.Each.{firstNot};
 ghost use Rattle.sections.specs.Words.{numberAt};
 ghost use Rattle.sections.specs.Code.{otherBy};
 ghost use Rattle.sections.specs.File.{refusalOf, countOf, eqZ};
-ghost use Rattle.session.specs.Records.{stationOf, sourceOf, dayOf, passOf, placeBy, stationBy, sourceBy, dayBy, askedOf};
+ghost use Rattle.session.specs.Records.{stationOf, sourceOf, dayOf, passOf, noStation, noSource, noDay, noPass, placeBy, stationBy, sourceBy, dayBy, askedOf};
 use crate::Day;
 use crate::Pass;
 use crate::Source;
@@ -16,6 +16,7 @@ use sections::contents::layout_of;
 use sections::ranges::inside;
 use sections::refusal::count_of;
 use sections::refusal::field_at;
+use sections::refusal::number;
 use sections::refusal::record_byte;
 use sections::refusal::refusal_of;
 use sections::words::number_at;
@@ -101,6 +102,63 @@ pub fn pass_of(s: &[u8], i: usize) -> Pass
     }
 }
 
+// A refusal and zeros, in place of a record.
+pub fn no_station(refusal: usize) -> Station
+    requires { ⌜ refusal ≤ 9 ⌝ }
+    ensures { λ r. ⌜ r ≡ noStation refusal ⌝ }
+{
+    Station {
+        refusal: number(refusal),
+        id: 0,
+        x: 0,
+        y: 0,
+        z: 0,
+    }
+}
+
+pub fn no_source(refusal: usize) -> Source
+    requires { ⌜ refusal ≤ 9 ⌝ }
+    ensures { λ r. ⌜ r ≡ noSource refusal ⌝ }
+{
+    Source {
+        refusal: number(refusal),
+        id: 0,
+        right_ascension: 0,
+        declination: 0,
+    }
+}
+
+pub fn no_day(refusal: usize) -> Day
+    requires { ⌜ refusal ≤ 9 ⌝ }
+    ensures { λ r. ⌜ r ≡ noDay refusal ⌝ }
+{
+    Day {
+        refusal: number(refusal),
+        mjd: 0,
+        x: 0,
+        y: 0,
+        ut1_utc: 0,
+        tai_utc: 0,
+    }
+}
+
+pub fn no_pass(refusal: usize) -> Pass
+    requires { ⌜ refusal ≤ 9 ⌝ }
+    ensures { λ r. ⌜ r ≡ noPass refusal ⌝ }
+{
+    Pass {
+        refusal: number(refusal),
+        station1: 0,
+        station2: 0,
+        source: 0,
+        mjd: 0,
+        ms: 0,
+        step: 0,
+        samples: 0,
+        tolerance: 0,
+    }
+}
+
 // Whether the number at byte at is z.
 fn number_is(s: &[u8], at: usize, z: i64) -> bool
     requires { ⌜ at + 8 ≤ length (now s) ⌝ }
@@ -143,13 +201,7 @@ pub fn station_by(s: &[u8], id: i64) -> Station
     if i < count_of(s, 0) {
         return station_of(s, i);
     }
-    Station {
-        refusal: 5,
-        id: 0,
-        x: 0,
-        y: 0,
-        z: 0,
-    }
+    no_station(5)
 }
 
 // The source of an id, or refusal 5.
@@ -161,12 +213,7 @@ pub fn source_by(s: &[u8], id: i64) -> Source
     if i < count_of(s, 1) {
         return source_of(s, i);
     }
-    Source {
-        refusal: 5,
-        id: 0,
-        right_ascension: 0,
-        declination: 0,
-    }
+    no_source(5)
 }
 
 // The record of the day with this MJD, or the number of days.
@@ -195,14 +242,7 @@ pub fn day_by(s: &[u8], mjd: i64) -> Day
     if i < count_of(s, 2) {
         return day_of(s, i);
     }
-    Day {
-        refusal: 6,
-        mjd: 0,
-        x: 0,
-        y: 0,
-        ut1_utc: 0,
-        tai_utc: 0,
-    }
+    no_day(6)
 }
 
 // The file's own refusal; then 5 where place p has no record i.

@@ -1,3 +1,4 @@
+pub mod Each
 pub mod Far
 pub mod Linear
 pub mod Machine

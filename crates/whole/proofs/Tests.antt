@@ -11,7 +11,17 @@ failed {r} e h = sym e ∙ not-true r h
 pub passed : {r s : Bool} → r ≡ s → not r ≡ false → s ≡ true
 passed {r} e h = sym e ∙ not-false r h
 
+-- two tests joined, where both hold
+pub and-yes : {a b : Bool} → a ≡ true → b ≡ true → a && b ≡ true
+and-yes h k = rw (h, k)
+
 -- of two tests joined one failed; Linear's `and-true` is the other half
 pub and-false : (s t : Bool) → (s && t) ≡ false → (s ≡ false) ⊎ (t ≡ false)
 and-false true t e = inr e
 and-false false t e = inl refl
+
+-- two tests that hold of the same are equal
+pub same-test : (a b : Bool) → (a ≡ true → b ≡ true) → (b ≡ true → a ≡ true) → a ≡ b
+same-test true b f g = sym (f refl)
+same-test false true f g = g refl
+same-test false false f g = refl

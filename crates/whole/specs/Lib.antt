@@ -1,3 +1,4 @@
+pub mod Each
 pub mod Steps
 pub mod Whole
 pub mod Cases

@@ -14,7 +14,8 @@ use borrow.Author.Tests.{eqb-true, eq-eqb, le-leb}
 use Rattle.sections.specs.Words.{word}
 use Rattle.sections.specs.Layouts.{layoutIn, standsIn, places, station, source, orientation, pass}
 use Rattle.sections.specs.File.{refusalOf, countOf, kindOf, firstByte, layoutOf, present, between, sectionsRight, countRight}
-use Rattle.sections.proofs.Search.{both, and-yes, no-way}
+use Rattle.whole.proofs.Linear.{and-true, no-ft}
+use Rattle.whole.proofs.Tests.{and-yes}
 use Rattle.sections.proofs.Accepted.{accepted-contents}
 use Rattle.sections.proofs.Sound.{five, kind-stands, count-is-right}
 use Rattle.writer.specs.Bytes.{bytesOfAll, wordsOf}
@@ -27,7 +28,7 @@ use Rattle.writer.proofs.Sections.{at-first, at-second, at-third, at-fo
 
 only-kind : (b : Bool) (k n : ℕ) → eqb k n ≡ b → cond b true false ≡ true → k ≡ n
 only-kind true k n e h = eqb-true k n e
-only-kind false k n e h = no-way h
+only-kind false k n e h = no-ft h
 
 split : (n m : ℕ) (w : List ℕ) → take m (drop n w) ++ drop (n + m) w ≡ drop n w
 split n m w = ap (λ (x : List ℕ). take m (drop n w) ++ x) (sym (drop-drop m n w)) ∙ take-append-drop m (drop n w)
@@ -51,7 +52,7 @@ module _ (s : List ℕ) (h : refusalOf s ≡ 0) where
 
   four : word s 0 ≡ 4
   unfolding sectionsRight
-  four = eqb-true _ _ (both (present s 0) _ (five s (accepted-contents s h) .0) .1)
+  four = eqb-true _ _ (and-true (present s 0) _ (five s (accepted-contents s h) .0) .1)
 
   pub stations-long : length (stationsIn s) ≡ 4 * countOf s 0
   stations-long = ap length (stations-tab s h) ∙ tab-long _ _
@@ -123,7 +124,7 @@ module _ (s : List ℕ) (h : refusalOf s ≡ 0) where
   -- the lists are right counts of whole records
   counted : (p : ℕ) → p < 4 → between (layoutOf s p .fewest) (layoutOf s p .most) (countOf s p) ≡ true
   unfolding countRight
-  counted p l = both (present s (3 * p + 3)) _ (count-is-right s (accepted-contents s h) p l) .1
+  counted p l = and-true (present s (3 * p + 3)) _ (count-is-right s (accepted-contents s h) p l) .1
 
   right : (p k n : ℕ) → kindOf s p ≡ k → sizeIn p k * countOf s p ≡ n → n / sizeIn p k ≡ countOf s p → p < 4 → listRight p k n ≡ true
   unfolding listRight

@@ -9,7 +9,7 @@ use borrow.Author.Tests.{eq-eqb, ne-eqb, eqb-true, le-leb, lt-leb, leb-true, lt-
 use Rattle.whole.proofs.Products.{below}
 use Rattle.sections.specs.Layouts.{layoutIn, standsIn}
 use Rattle.sections.specs.File.{between}
-use Rattle.sections.proofs.Search.{both}
+use Rattle.whole.proofs.Linear.{and-true}
 use Rattle.sections.proofs.Shapes.{stands-some, size-small, most-small}
 use Rattle.writer.specs.Writing.{sizeIn, listRight, listsRight}
 use Rattle.writer.specs.declared.Kinds.{Kinds}
@@ -50,9 +50,9 @@ pub record List-right (p k n : ℕ) : Type 0 where
 pub list-right : (p k n : ℕ) → listRight p k n ≡ true → List-right p k n
 unfolding listRight
 list-right p k n h =
-    let a = both (standsIn p k) _ h in
-    let b = both (eqb (sizeIn p k * (n / sizeIn p k)) n) _ (a .1) in
-    let c = both (leb (layoutIn p k .fewest) (n / sizeIn p k)) (leb (n / sizeIn p k) (layoutIn p k .most)) (b .1) in
+    let a = and-true (standsIn p k) _ h in
+    let b = and-true (eqb (sizeIn p k * (n / sizeIn p k)) n) _ (a .1) in
+    let c = and-true (leb (layoutIn p k .fewest) (n / sizeIn p k)) (leb (n / sizeIn p k) (layoutIn p k .most)) (b .1) in
     let e = eqb-true (sizeIn p k * (n / sizeIn p k)) n (b .0) in
     let m : n / sizeIn p k ≤ 256 = omega (arith, leb-true (n / sizeIn p k) (layoutIn p k .most) (c .1), most-small p k) in
     record {
@@ -72,9 +72,9 @@ pub record Lists-right (k : Kinds) (a b c d : ℕ) : Type 0 where
 pub lists-right : (k : Kinds) (a b c d : ℕ) → listsRight k a b c d ≡ true → Lists-right k a b c d
 unfolding listsRight
 lists-right k a b c d h =
-    let x = both (listRight 0 (k .first) a) _ h in
-    let y = both (listRight 1 (k .second) b) _ (x .1) in
-    let z = both (listRight 2 (k .third) c) (listRight 3 (k .fourth) d) (y .1) in
+    let x = and-true (listRight 0 (k .first) a) _ h in
+    let y = and-true (listRight 1 (k .second) b) _ (x .1) in
+    let z = and-true (listRight 2 (k .third) c) (listRight 3 (k .fourth) d) (y .1) in
     record { one = list-right _ _ _ (x .0); two = list-right _ _ _ (y .0); three = list-right _ _ _ (z .0); four = list-right _ _ _ (z .1) }
 
 pub positive : (n : ℕ) → (n ≡ 0 → ⊥) → 0 < n

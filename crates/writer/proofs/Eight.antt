@@ -9,7 +9,8 @@ use lib.ListN.{length, getD, set, take, drop, length-take}
 use native.Mathlib.Numerals.{add-one}
 use lib.Seq.{drop-cons, sets, sets-eq, getD-append-add, getD-append-seam}
 use Rattle.sections.specs.Words.{pairAt, quadAt, bitsAt}
-use Rattle.writer.specs.Bytes.{bytesOf, quadOf, pairOf, putPair, putQuad, putBits}
+use Rattle.writer.specs.Bytes.{bytesOf, quadOf, pairOf}
+use Rattle.writer.specs.Code.{putPair, putQuad, putBits}
 use Rattle.writer.proofs.Numbers.{Bytes}
 
 -- the number of eight bytes, given in parts

@@ -11,10 +11,11 @@ use mir.Syntax.{w64}
 use mir.Val.{ofZ}
 use borrow.Author.Tests.{eq-eqb, le-leb, leb-true}
 use Rattle.sections.specs.Words.{word}
-use Rattle.sections.specs.Each.{allBelow}
+use Rattle.whole.specs.Each.{allBelow}
 use Rattle.sections.specs.Layouts.{layoutIn, standsIn, places, station, source, orientation, pass}
 use Rattle.sections.specs.File.{present, between, kindOf, firstByte, countOf, sizeOf, layoutOf, startOf, sectionsRight, kindRight, offsetRight, countRight, lengthRight, contentsRight, rangesRight, idsRight, daysRight, refusalOf}
-use Rattle.sections.proofs.Search.{both, and-yes}
+use Rattle.whole.proofs.Linear.{and-true}
+use Rattle.whole.proofs.Tests.{and-yes}
 use Rattle.writer.specs.Bytes.{bytesOfAll, wordsOf}
 use Rattle.writer.specs.Writing.{sizeIn, listsRight, contentsFor, fileWords, fileOf, kinds, orElse, writeRefusal}
 use Rattle.writer.proofs.All.{all-long}
@@ -62,10 +63,10 @@ module _ (p q r t : List ℤ) (g : listsRight kinds (length p) (length q) (lengt
   unfolding layoutIn places station source orientation pass
   small =
       let w = lists-right _ _ _ _ _ g in (
-        omega (arith, leb-true (length p / 4) 64 (both (leb 1 (length p / 4)) _ (w .one .counted) .1), w .one .exact),
-        omega (arith, leb-true (length q / 3) 256 (both (leb 1 (length q / 3)) _ (w .two .counted) .1), w .two .exact),
-        omega (arith, leb-true (length r / 5) 64 (both (leb 2 (length r / 5)) _ (w .three .counted) .1), w .three .exact),
-        omega (arith, leb-true (length t / 8) 64 (both (leb 1 (length t / 8)) _ (w .four .counted) .1), w .four .exact),
+        omega (arith, leb-true (length p / 4) 64 (and-true (leb 1 (length p / 4)) _ (w .one .counted) .1), w .one .exact),
+        omega (arith, leb-true (length q / 3) 256 (and-true (leb 1 (length q / 3)) _ (w .two .counted) .1), w .two .exact),
+        omega (arith, leb-true (length r / 5) 64 (and-true (leb 2 (length r / 5)) _ (w .three .counted) .1), w .three .exact),
+        omega (arith, leb-true (length t / 8) 64 (and-true (leb 1 (length t / 8)) _ (w .four .counted) .1), w .four .exact),
       )
 
   pub file-contents : contentsRight (fileOf kinds p q r t) ≡ true

@@ -8,54 +8,74 @@ use lib.ListN.{length, take, drop}
 use lib.Seq.{take-at}
 use lib.IntN.{ℤ, pos}
 use lib.Dec.{leb, eqb}
-use borrow.Author.Tests.{le-leb, lt-leb, leb-true, ne-eqb}
+use borrow.Author.Tests.{le-leb, lt-leb, leb-true, eq-eqb, ne-eqb}
 use Rattle.sections.specs.File.{refusalOf}
 use Rattle.writer.specs.declared.Written.{Written}
 use Rattle.writer.specs.declared.Kinds.{Kinds}
 use Rattle.writer.specs.Bytes.{pasted}
-use Rattle.writer.specs.Writing.{listsRight, fileOf, orElse, writeRefusal, writtenAs, roomAs}
+use Rattle.writer.specs.Writing.{listsRight, fileOf, orElse, answerOf, writeRefusal, writtenAs, roomAs}
 
 -- what is written from the start on stands there
 pub front : (d e bs : List ℕ) (n : ℕ) → e ≡ pasted d 0 bs → n ≡ length bs → take n e ≡ bs
 unfolding pasted
 front d e bs n h k = rw h (take-at bs (drop (0 + length bs) d) n (sym k))
 
-not-zero : (k : ℕ) (y : ℕ) → (k ≡ 0 → ⊥) → orElse k y ≡ k
-not-zero zero y h = absurd (h refl)
-not-zero (suc k) y h = refl
+-- ---- the number, and the answer by it
 
-ne-zero : (n : ℕ) → (n ≡ 0 → ⊥) → eqb n 0 ≡ false
-ne-zero n h = ne-eqb n 0 h
+pub or-first : (x y : ℕ) → (x ≡ 0 → ⊥) → orElse x y ≡ x
+or-first zero y h = absurd (h refl)
+or-first (suc x) y h = refl
+
+or-none : (x : ℕ) → orElse x 0 ≡ x
+or-none zero = refl
+or-none (suc x) = refl
+
+pub or-seven : (x : ℕ) → orElse x 7 ≡ 0 → ⊥
+or-seven zero h = omega arith
+or-seven (suc x) h = omega arith
+
+pub answer-no : (n m : ℕ) → (n ≡ 0 → ⊥) → answerOf n m ≡ record { refusal = pos n; value = pos 0 }
+unfolding answerOf
+answer-no n m h = rw (ne-eqb n 0 h)
+
+pub answer-yes : (n m : ℕ) → n ≡ 0 → answerOf n m ≡ record { refusal = pos 0; value = pos m }
+unfolding answerOf
+answer-yes n m h = rw (eq-eqb n 0 h)
 
 module _ (k : Kinds) (p q r t : List ℤ) (room : List ℕ) where
-  -- refused with n: the number and 0, and the room as it was
-  pub refused : (n : ℕ) → writeRefusal k p q r t (length room) ≡ n → (n ≡ 0 → ⊥)
-      → (writtenAs k p q r t (length room) ≡ record { refusal = pos n; value = pos 0 }) × (roomAs k p q r t room ≡ room)
-  unfolding writtenAs roomAs
-  refused n e h = (rw (e, ne-zero n h), rw (e, ne-zero n h))
+  -- the answer is that of the number, and by the number the room stays or holds the file
+  pub answered : writtenAs k p q r t (length room) ≡ answerOf (writeRefusal k p q r t (length room)) (length (fileOf k p q r t))
+  unfolding writtenAs
+  answered = refl
 
-  pub done : writeRefusal k p q r t (length room) ≡ 0
-      → (writtenAs k p q r t (length room) ≡ record { refusal = pos 0; value = pos (length (fileOf k p q r t)) }) × (roomAs k p q r t room ≡ pasted room 0 (fileOf k p q r t))
-  unfolding writtenAs roomAs
-  done e = (rw e, rw e)
+  pub room-stays : (writeRefusal k p q r t (length room) ≡ 0 → ⊥) → roomAs k p q r t room ≡ room
+  unfolding roomAs
+  room-stays h = rw (ne-eqb _ 0 h)
 
+  pub room-written : writeRefusal k p q r t (length room) ≡ 0 → roomAs k p q r t room ≡ pasted room 0 (fileOf k p q r t)
+  unfolding roomAs
+  room-written h = rw h
+
+  -- refused with n, whatever the count of bytes
+  pub refused : (n m : ℕ) → writeRefusal k p q r t (length room) ≡ n → (n ≡ 0 → ⊥)
+      → (answerOf n m ≡ writtenAs k p q r t (length room)) × (room ≡ roomAs k p q r t room)
+  refused n m e h =
+      let f : (writeRefusal k p q r t (length room) ≡ 0 → ⊥) = λ z. h (sym e ∙ z) in
+      (answer-no n m h ∙ sym (answered ∙ ap (λ (i : ℕ). answerOf i (length (fileOf k p q r t))) e ∙ answer-no n _ h), sym (room-stays f))
+
+  -- the number, by the lists, the reader's number of the file, and the room
   pub by-lists : listsRight k (length p) (length q) (length r) (length t) ≡ false → writeRefusal k p q r t (length room) ≡ 1
   unfolding writeRefusal
   by-lists h = rw h
 
   module _ (s : listsRight k (length p) (length q) (length r) (length t) ≡ true) where
-    pub by-file : (n : ℕ) → n ≡ refusalOf (fileOf k p q r t) → (n ≡ 0 → ⊥) → writeRefusal k p q r t (length room) ≡ n
+    pub by-short : length room < length (fileOf k p q r t) → writeRefusal k p q r t (length room) ≡ orElse (refusalOf (fileOf k p q r t)) 7
     unfolding writeRefusal
-    by-file n e h = rw (s, sym e, not-zero n _ h)
+    by-short h = rw (s, lt-leb _ _ h)
 
-    module _ (e : refusalOf (fileOf k p q r t) ≡ 0) where
-      pub by-room : length room < length (fileOf k p q r t) → writeRefusal k p q r t (length room) ≡ 7
-      unfolding writeRefusal
-      by-room h = rw (s, e, lt-leb _ _ h)
-
-      pub by-none : length (fileOf k p q r t) ≤ length room → writeRefusal k p q r t (length room) ≡ 0
-      unfolding writeRefusal
-      by-none h = rw (s, e, le-leb _ _ h)
+    pub by-file : length (fileOf k p q r t) ≤ length room → writeRefusal k p q r t (length room) ≡ refusalOf (fileOf k p q r t)
+    unfolding writeRefusal
+    by-file h = rw (s, le-leb _ _ h, or-none (refusalOf (fileOf k p q r t)))
 
   -- what a call that is not refused says
   pub accepted : writeRefusal k p q r t (length room) ≡ 0

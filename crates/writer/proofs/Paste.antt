@@ -7,7 +7,8 @@ use native.Mathlib.Omega.{arith}
 use mathlib.Core.List.{List, [], _∷_, _++_, append-assoc, append-nil}
 use lib.ListN.{length, getD, set, take, drop, length-append, length-drop, length-take, take-append-drop}
 use lib.Seq.{drop-cons, set-at, append-snoc, length-take-le, take-at, drop-at, drop-append-add, drop-drop, take-suc, take-length, take-append-add}
-use Rattle.writer.specs.Bytes.{bytesOf, bytesOfAll, putBits}
+use Rattle.writer.specs.Bytes.{bytesOf, bytesOfAll}
+use Rattle.writer.specs.Code.{putBits}
 use Rattle.writer.specs.Bytes.{pasted}
 use Rattle.writer.proofs.Eight.{written}
 use Rattle.writer.proofs.All.{eight-long, all-long}

@@ -17,7 +17,7 @@ use Rattle.writer.specs.Writing.{listsRight, fileOf, kinds, writeRefusal
 use Rattle.writer.specs.Handed.{stationsIn, sourcesIn, daysIn, passesIn}
 use Rattle.writer.specs.Round.{Longs, writtenIn, ReadBack, WrittenBack}
 use Rattle.writer.proofs.Numbers.{Bytes}
-use Rattle.writer.proofs.Outcomes.{front, refused, done, by-none, accepted}
+use Rattle.writer.proofs.Outcomes.{front, answered, answer-no, answer-yes, room-written, by-file, accepted}
 use Rattle.writer.proofs.Sections.{check-zero}
 use Rattle.writer.proofs.Again.{written-again, lists-again}
 use Rattle.writer.proofs.Back.{stations-back, sources-back, days-back, passes-back}
@@ -26,8 +26,8 @@ module _ (p q r t : List ℤ) (room : List ℕ) where
   zero′ : Dec (writeRefusal kinds p q r t (length room) ≡ 0) → writtenOf p q r t room .refusal ≡ pos 0 → writeRefusal kinds p q r t (length room) ≡ 0
   zero′ (yes h) e = h
   zero′ (no h) e =
-      let w = refused kinds p q r t room (writeRefusal kinds p q r t (length room)) refl h in
-      ap natAbs (sym (ap (λ (a : Written). a .refusal) (w .0)) ∙ e)
+      let w = answered kinds p q r t room ∙ answer-no _ _ h in
+      ap natAbs (sym (ap (λ (a : Written). a .refusal) w) ∙ e)
 
   module _ (e : writtenOf p q r t room .refusal ≡ pos 0) where
     none : writeRefusal kinds p q r t (length room) ≡ 0
@@ -36,8 +36,8 @@ module _ (p q r t : List ℤ) (room : List ℕ) where
     -- the bytes written are the file
     file-in : writtenIn p q r t room ≡ fileOf kinds p q r t
     file-in =
-        let w = done kinds p q r t room none in
-        front room (roomAfter p q r t room) (fileOf kinds p q r t) _ (w .1) (ap (λ (a : Written). natAbs (a .value)) (w .0))
+        let w = answered kinds p q r t room ∙ answer-yes _ _ none in
+        front room (roomAfter p q r t room) (fileOf kinds p q r t) _ (room-written kinds p q r t room none) (ap (λ (a : Written). natAbs (a .value)) w)
 
   ok : writtenOf p q r t room .refusal ≡ pos 0
       → (listsRight kinds (length p) (length q) (length r) (length t) ≡ true) × (refusalOf (fileOf kinds p q r t) ≡ 0) × (length (fileOf kinds p q r t) ≤ length room)
@@ -63,9 +63,9 @@ module _ (s : List ℕ) (b : Bytes s) where
   ends e room l =
       let h = check-zero s e in
       let f = written-again s h b in
-      let n = by-none kinds (stationsIn s) (sourcesIn s) (daysIn s) (passesIn s) room (lists-again s h) (ap refusalOf f ∙ h) (rw f l) in
-      let w = done kinds (stationsIn s) (sourcesIn s) (daysIn s) (passesIn s) room n in
-      (w .0 ∙ ap (λ (x : List ℕ). wrote (length x)) f, w .1 ∙ ap (pasted room 0) f)
+      let n = by-file kinds (stationsIn s) (sourcesIn s) (daysIn s) (passesIn s) room (lists-again s h) (rw f l) ∙ ap refusalOf f ∙ h in
+      let w = answered kinds (stationsIn s) (sourcesIn s) (daysIn s) (passesIn s) room ∙ answer-yes _ _ n in
+      (w ∙ ap (λ (x : List ℕ). wrote (length x)) f, room-written kinds (stationsIn s) (sourcesIn s) (daysIn s) (passesIn s) room n ∙ ap (pasted room 0) f)
 
   pub written-back : WrittenBack s
   written-back = record { answer = λ e room l. ends e room l .0; bytes = λ e room l. ends e room l .1 }

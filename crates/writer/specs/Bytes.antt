@@ -1,11 +1,10 @@
 -- Document 01, 'Session file': "Every number is 8 bytes, little-endian two's complement", written.
-use Prim.Native.Nat.{ℕ, zero, suc, _+_, _*_, _/_, _%_, _<_}
+use Prim.Native.Nat.{ℕ, _+_, _/_, _%_}
 use mathlib.Core.List.{List, [], _∷_, _++_, map}
-use lib.ListN.{length, getD, set, take, drop}
+use lib.ListN.{length, take, drop}
 use lib.IntN.{ℤ}
 use mir.Syntax.{w64}
-use mir.Val.{toZ, ofZ}
-use Rattle.sections.specs.Words.{bitsAt}
+use mir.Val.{ofZ}
 
 -- the two, the four, the eight bytes of a word, the lowest first
 abbrev pub pairOf : ℕ → List ℕ
@@ -29,14 +28,3 @@ wordsOf zs = map (ofZ w64) zs
 -- d with the bytes bs from at on
 unfoldable pub pasted : List ℕ → ℕ → List ℕ → List ℕ
 pasted d at bs = take at d ++ (bs ++ drop (at + length bs) d)
-
--- ---- what the code's stores leave
-
-abbrev pub putPair : List ℕ → ℕ → ℕ → List ℕ
-putPair d at w = set (set d at (w % 256)) (at + 1) (w / 256)
-
-unfoldable pub putQuad : List ℕ → ℕ → ℕ → List ℕ
-putQuad d at w = putPair (putPair d at (w % 65536)) (at + 2) (w / 65536)
-
-unfoldable pub putBits : List ℕ → ℕ → ℕ → List ℕ
-putBits d at w = putQuad (putQuad d at (w % 4294967296)) (at + 4) (w / 4294967296)

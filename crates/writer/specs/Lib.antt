@@ -1,4 +1,5 @@
 pub mod Bytes
+pub mod Code
 pub mod Writing
 pub mod Handed
 pub mod Round

@@ -39,6 +39,7 @@ fileOf k p q r t = bytesOfAll (fileWords k p q r t)
 
 -- ---- the refusal, the lowest that applies: 1 counts, 2, 3 and 4 as the reader has them, 7 room too short
 
+-- x, or y where x is 0
 abbrev pub orElse : ℕ → ℕ → ℕ
 orElse zero y = y
 orElse (suc x) y = suc x
@@ -48,12 +49,12 @@ writeRefusal k p q r t room =
     cond (listsRight k (length p) (length q) (length r) (length t))
     (orElse (refusalOf (fileOf k p q r t)) (cond (leb (length (fileOf k p q r t)) room) 0 7)) 1
 
--- the answer: the bytes written, or the refusal and 0
+-- the answer: 0 and the number of bytes written, or the refusal and 0
+unfoldable pub answerOf : ℕ → ℕ → Written
+answerOf refusal n = cond (eqb refusal 0) (record { refusal = pos 0; value = pos n }) (record { refusal = pos refusal; value = pos 0 })
+
 unfoldable pub writtenAs : Kinds → List ℤ → List ℤ → List ℤ → List ℤ → ℕ → Written
-writtenAs k p q r t room =
-    cond (eqb (writeRefusal k p q r t room) 0)
-    (record { refusal = pos 0; value = pos (length (fileOf k p q r t)) })
-    (record { refusal = pos (writeRefusal k p q r t room); value = pos 0 })
+writtenAs k p q r t room = answerOf (writeRefusal k p q r t room) (length (fileOf k p q r t))
 
 -- the room after the call: the file from its start, the rest untouched; refused, every byte stays
 unfoldable pub roomAs : Kinds → List ℤ → List ℤ → List ℤ → List ℤ → List ℕ → List ℕ

@@ -4,7 +4,8 @@ ghost use Prim.Native.Nat.{_+_, _*_, _<_, _≤_};
 ghost use lib.ListN.{length};
 ghost use mir.Syntax.{w64};
 ghost use mir.Val.{ofZ};
-ghost use Rattle.writer.specs.Bytes.{pasted, wordsOf, bytesOfAll, putPair, putQuad, putBits};
+ghost use Rattle.writer.specs.Bytes.{pasted, wordsOf, bytesOfAll};
+ghost use Rattle.writer.specs.Code.{putPair, putQuad, putBits};
 
 // The bits of z.
 fn unsigned(z: i64) -> u64

@@ -1,11 +1,10 @@
 // The session file, written. Document 01, 'Session file'.
 ghost use mathlib.Core.Path.{_≡_};
 ghost use mathlib.Core.Bool.{true};
-ghost use Prim.Native.Nat.{_≤_};
+ghost use Prim.Native.Nat.{_+_, _<_, _≤_};
 ghost use lib.ListN.{length};
-ghost use lib.IntN.{pos};
 ghost use Rattle.writer.specs.Bytes.{pasted};
-ghost use Rattle.writer.specs.Writing.{listsRight, fileOf, writtenAs, roomAs, writtenOf, roomAfter};
+ghost use Rattle.writer.specs.Writing.{listsRight, fileOf, orElse, answerOf, writtenAs, roomAs, writtenOf, roomAfter};
 
 pub mod bytes;
 pub mod lists;
@@ -19,7 +18,7 @@ use lists::lists_right;
 use sections::refusal::number;
 use sections::refusal::refusal_of;
 
-// The answer: the bytes written, or the refusal and 0.
+// The answer: 0 and how many bytes are written, or the refusal and 0.
 #[repr(C)]
 pub struct Written {
     pub refusal: i64,
@@ -52,12 +51,31 @@ fn encode(d: &mut [u8], k: Kinds, p: &[i64], q: &[i64], r: &[i64], t: &[i64]) ->
     s4 + 8 * t.len()
 }
 
-// A length of the code, as an answer holds it.
-fn bytes_number(n: usize) -> i64
-    requires { ⌜ n ≤ 65640 ⌝ }
-    ensures { λ r. ⌜ r ≡ pos n ⌝ }
+// x, or y where x is 0.
+fn or_else(x: usize, y: usize) -> usize
+    ensures { λ r. ⌜ (r ≡ orElse x y) × (r ≤ x + y) ⌝ }
 {
-    n as i64
+    if x != 0 {
+        return x;
+    }
+    y
+}
+
+// 0 and the n bytes written, or the refusal and 0.
+fn answer(refusal: usize, n: usize) -> Written
+    requires { ⌜ (refusal < 9223372036854775808) × (n < 9223372036854775808) ⌝ }
+    ensures { λ w. ⌜ w ≡ answerOf refusal n ⌝ }
+{
+    if refusal != 0 {
+        return Written {
+            refusal: number(refusal),
+            value: 0,
+        };
+    }
+    Written {
+        refusal: 0,
+        value: number(n),
+    }
 }
 
 // The file of four lists, each place with the kind that it is to have, written to the start of room.
@@ -74,32 +92,19 @@ pub fn write_as(
         × (now (room .exit) ≡ roomAs k (now (stations .entry)) (now (sources .entry)) (now (days .entry)) (now (passes .entry)) (now (room .entry))) ⌝ }
 {
     if !lists_right(k, stations.len(), sources.len(), days.len(), passes.len()) {
-        return Written {
-            refusal: 1,
-            value: 0,
-        };
+        return answer(1, 0);
     }
     let mut file = [0u8; 65640];
     let n = encode(&mut file, k, stations, sources, days, passes);
     let part = &file[..n];
     let refusal = refusal_of(part);
-    if refusal != 0 {
-        return Written {
-            refusal: number(refusal),
-            value: 0,
-        };
-    }
     if room.len() < n {
-        return Written {
-            refusal: 7,
-            value: 0,
-        };
+        return answer(or_else(refusal, 7), n);
     }
-    copy(room, part);
-    Written {
-        refusal: 0,
-        value: bytes_number(n),
+    if refusal == 0 {
+        copy(room, part);
     }
+    answer(refusal, n)
 }
 
 // The session file of four lists of numbers, record after record, written to the start of room.

@@ -1,5 +1,7 @@
 use mathlib.Core.Path.{_≡_, refl, sym, _∙_}
+use native.Mathlib.Omega.{arith}
 use lib.IntN.{pos}
+use Rattle.sections.specs.File.{countOf}
 use Rattle.session.proofs.Answers.{number-back, check-refused, check-accepted}
 use borrow.Author.Needs.{needs}
 use Rattle.session.proofs.check.Statement.{statement}
@@ -43,11 +45,12 @@ number-requires-5 c κs = search needs
 
 returns-2 : tie.Need-returns-2
 returns-2 c =
-    let f0 = number-back (c .before .before .before .before .before .before .number2 .result) _ _ (c .before .before .before .before .before .before .number2 .ok) (c .before .before .before .before .before .before .number2 .ensures) (c .before .before .before .before .before .before .before .count-of .ensures .0) in
-    let f1 = number-back (c .before .before .before .before .number3 .result) _ _ (c .before .before .before .before .number3 .ok) (c .before .before .before .before .number3 .ensures) (c .before .before .before .before .before .count-of2 .ensures .0) in
-    let f2 = number-back (c .before .before .number4 .result) _ _ (c .before .before .number4 .ok) (c .before .before .number4 .ensures) (c .before .before .before .count-of3 .ensures .0) in
-    let f3 = number-back (c .number5 .result) _ _ (c .number5 .ok) (c .number5 .ensures) (c .before .count-of4 .ensures .0) in
-    (λ j. record { refusal = pos 0; stations = f0 j; sources = f1 j; days = f2 j; passes = f3 j }) ∙ sym (check-accepted _ (sym (c .before .before .before .before .before .before .before .before .before .refusal-of .ensures .0) ∙ c .before .before .before .before .before .before .before .before .if1 .left))
+    let s = c .before .before .before .before .before .before .before .before .before .before .before .args .file .now in
+    let f0 = number-back (c .before .before .before .before .before .before .number2 .result) _ (countOf s 0) (c .before .before .before .before .before .before .number2 .ok) (c .before .before .before .before .before .before .number2 .ensures) (omega (arith, c .before .before .before .before .before .before .before .count-of .ensures .0)) in
+    let f1 = number-back (c .before .before .before .before .number3 .result) _ (countOf s 1) (c .before .before .before .before .number3 .ok) (c .before .before .before .before .number3 .ensures) (omega (arith, c .before .before .before .before .before .count-of2 .ensures .0)) in
+    let f2 = number-back (c .before .before .number4 .result) _ (countOf s 2) (c .before .before .number4 .ok) (c .before .before .number4 .ensures) (omega (arith, c .before .before .before .count-of3 .ensures .0)) in
+    let f3 = number-back (c .number5 .result) _ (countOf s 3) (c .number5 .ok) (c .number5 .ensures) (omega (arith, c .before .count-of4 .ensures .0)) in
+    (λ j. record { refusal = pos 0; stations = f0 j; sources = f1 j; days = f2 j; passes = f3 j }) ∙ sym (check-accepted s (sym (c .before .before .before .before .before .before .before .before .before .refusal-of .ensures .0) ∙ c .before .before .before .before .before .before .before .before .if1 .left))
 
 pub check-spec : {M : Type 1} → statement M
 check-spec =

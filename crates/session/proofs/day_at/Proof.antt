@@ -1,6 +1,7 @@
-use mathlib.Core.Path.{_≡_, refl, sym, _∙_}
-use lib.IntN.{pos}
-use Rattle.session.proofs.Answers.{number-back, asked-zero, day-no, day-yes}
+use mathlib.Core.Path.{_≡_, sym, ap, _∙_}
+use native.Mathlib.Omega.{arith}
+use Rattle.session.specs.Records.{noDay}
+use Rattle.session.proofs.Answers.{asked-zero, day-no, day-yes}
 use borrow.Author.Needs.{needs}
 use Rattle.session.proofs.day_at.Statement.{statement}
 use Rattle.session.proofs.day_at.Tie as tie
@@ -8,20 +9,21 @@ use Rattle.session.proofs.day_at.Tie as tie
 asked-requires : tie.Need-asked-requires
 asked-requires c κs = search needs
 
-number-requires : tie.Need-number-requires
-number-requires c κs = search needs
+day-of-requires : tie.Need-day-of-requires
+day-of-requires c κs =
+    let w = asked-zero _ _ _ (sym (c .before .asked .ensures .0) ∙ c .if1 .taken) in
+    (w .0, omega (arith, w .1))
 
 returns : tie.Need-returns
-returns c =
-    let n = c .before .before .asked .ensures .0 in
-    let g = number-back (c .number .result) _ _ (c .number .ok) (c .number .ensures) n in
-    (λ j. record { refusal = g j; mjd = pos 0; x = pos 0; y = pos 0; «ut1_utc» = pos 0; «tai_utc» = pos 0 }) ∙ sym (day-no _ _ (λ e. c .before .if1 .taken (n ∙ e)))
+returns c = c .day-of .ensures ∙ sym (day-yes _ _ (sym (c .before .before .asked .ensures .0) ∙ c .before .if1 .taken))
 
-day-of-requires : tie.Need-day-of-requires
-day-of-requires c κs = asked-zero _ 2 _ (sym (c .before .asked .ensures .0) ∙ c .if1 .left)
+no-day-requires : tie.Need-no-day-requires
+no-day-requires c κs = search needs
 
 returns-2 : tie.Need-returns-2
-returns-2 c = c .day-of .ensures ∙ sym (day-yes _ _ (sym (c .before .before .asked .ensures .0) ∙ c .before .if1 .left))
+returns-2 c =
+    let n = c .before .before .asked .ensures .0 in
+    c .no-day .ensures ∙ ap noDay n ∙ sym (day-no _ _ (λ e. c .before .if1 .left (n ∙ e)))
 
 pub day-at-spec : {M : Type 1} → statement M
-day-at-spec = tie.close (tie.spec asked-requires number-requires returns day-of-requires returns-2)
+day-at-spec = tie.close (tie.spec asked-requires day-of-requires returns no-day-requires returns-2)

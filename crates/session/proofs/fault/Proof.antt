@@ -1,7 +1,8 @@
 use mathlib.Core.Path.{_≡_, refl, sym, ap, _∙_}
 use native.Mathlib.Omega.{arith}
-use Prim.Native.Nat.{ℕ}
+use Prim.Native.Nat.{ℕ, _<_}
 use lib.IntN.{pos}
+use Rattle.sections.specs.Table.{wrongWord}
 use Rattle.session.specs.Fault.{rangeFault, orderFault}
 use Rattle.sections.proofs.Accepted.{contents-past, no-contents, is-one, is-two, is-three, is-four, is-none}
 use Rattle.session.proofs.Answers.{number-back}
@@ -18,12 +19,14 @@ number-requires c κs = search needs
 
 returns : tie.Need-returns
 returns c =
+    let s = c .before .before .before .before .args .file .now in
     let w = c .before .before .wrong-word .ensures in
+    let l : wrongWord s < 14 = omega (arith, w, c .before .if1 .taken) in
     let g = number-back (c .number .result) _ _ (c .number .ok) (c .number .ensures) w in
-    (λ j. record { number = pos 1; section = pos 0; «record» = pos 0; field = g j }) ∙ sym (fault-word _ (is-one _ (no-contents _ (rw w at (c .before .if1 .taken)))))
+    (λ j. record { number = pos 1; section = pos 0; «record» = pos 0; field = g j }) ∙ sym (fault-word s (is-one s (no-contents s l)))
 
 wrong-section-requires : tie.Need-wrong-section-requires
-wrong-section-requires c κs = (contents-past _ _ (c .before .wrong-word .ensures) (c .if1 .left))
+wrong-section-requires c κs = contents-past _ (c .before .wrong-word .result) (c .before .wrong-word .ensures) (omega (arith, c .if1 .left))
 
 range-fault-requires : tie.Need-range-fault-requires
 range-fault-requires c κs =

@@ -1,14 +1,14 @@
-use Prim.Native.Nat.{ℕ}
-use mathlib.Core.Path.{_≡_, refl, sym, ap, _∙_}
+use Prim.Native.Nat.{ℕ, _≤_, _<_}
+use mathlib.Core.Path.{_≡_, sym, ap, ap₂, _∙_}
+use mathlib.Core.Logic.{⊎-elim}
 use native.Mathlib.Omega.{arith}
-use lib.ListN.{length, take}
+use lib.ListN.{length}
 use lib.Seq.{length-take-le}
-use lib.IntN.{pos}
 use Rattle.sections.specs.File.{refusalOf}
-use Rattle.sections.proofs.Search.{failed, passed}
-use Rattle.session.proofs.Answers.{number-back}
+use Rattle.whole.proofs.Tests.{failed, passed}
 use Rattle.writer.specs.Bytes.{pasted}
-use Rattle.writer.proofs.Outcomes.{front, refused, done, by-lists, by-file, by-room, by-none}
+use Rattle.writer.specs.Writing.{fileOf, orElse, answerOf}
+use Rattle.writer.proofs.Outcomes.{front, answered, refused, room-stays, room-written, or-seven, by-lists, by-short, by-file}
 use borrow.Author.Needs.{needs}
 use Rattle.writer.proofs.write_as.Statement.{statement}
 use Rattle.writer.proofs.write_as.Tie as tie
@@ -16,11 +16,16 @@ use Rattle.writer.proofs.write_as.Tie as tie
 lists-right-requires : tie.Need-lists-right-requires
 lists-right-requires c κs = search needs
 
+answer-requires : tie.Need-answer-requires
+answer-requires c κs = search needs
+
+-- the lists are wrong: 1
 returns : tie.Need-returns
 returns c =
-    let st = c .before .before .before in
-    let w = refused (st .args .k) (st .args .stations .now) (st .args .sources .now) (st .args .days .now) (st .args .passes .now) (st .args .room .now) 1 (by-lists _ _ _ _ _ (st .args .room .now) (failed (c .before .lists-right .ensures) (c .if1 .taken))) (λ (z : _≡_ {A = ℕ} 1 0). omega arith) in
-    (sym (w .0), sym (w .1))
+    let a = c .before .before .before .before .args in
+    let e = by-lists (a .k) (a .stations .now) (a .sources .now) (a .days .now) (a .passes .now) (a .room .now) (failed (c .before .before .lists-right .ensures) (c .before .if1 .taken)) in
+    let w = refused (a .k) (a .stations .now) (a .sources .now) (a .days .now) (a .passes .now) (a .room .now) 1 0 e (λ (z : _≡_ {A = ℕ} 1 0). omega arith) in
+    (c .answer .ensures ∙ w .0, w .1)
 
 slice-aggregate-encode : tie.Need-slice-aggregate-encode
 slice-aggregate-encode c = search needs
@@ -37,68 +42,67 @@ slice-aggregate-part c = sym (length-take-le _ _ (omega (arith, c .before .befor
 refusal-of-requires : tie.Need-refusal-of-requires
 refusal-of-requires c κs = search needs
 
-number-requires : tie.Need-number-requires
-number-requires c κs = search needs
+or-else-requires : tie.Need-or-else-requires
+or-else-requires c κs = search needs
 
+answer-requires-2 : tie.Need-answer-requires-2
+answer-requires-2 c κs = search needs
+
+-- the room is too short: the file's own number, or 7
 returns-2 : tie.Need-returns-2
 returns-2 c =
-    let st = c .before .before .before .before .before .before .before .before .before .before in
-    let n = c .before .before .before .before .before .encode in
+    let a = c .before .before .before .before .before .before .before .before .before .before .before .args in
+    let n = c .before .before .before .before .before .before .encode in
     let f = front _ _ _ _ (n .ensures .1) (n .ensures .0) in
-    let s = passed (c .before .before .before .before .before .before .before .before .lists-right .ensures) (c .before .before .before .before .before .before .before .if1 .left) in
-    let m = c .before .before .refusal-of .ensures .0 ∙ ap refusalOf f in
-    let w = refused (st .args .k) (st .args .stations .now) (st .args .sources .now) (st .args .days .now) (st .args .passes .now) (st .args .room .now) _ (by-file _ _ _ _ _ (st .args .room .now) s _ m (c .before .if2 .taken)) (c .before .if2 .taken) in
-    let g = number-back (c .number .result) _ _ (c .number .ok) (c .number .ensures) refl in
-    ((λ j. record { refusal = g j; value = pos 0 }) ∙ sym (w .0), sym (w .1))
-
-returns-3 : tie.Need-returns-3
-returns-3 c =
-    let st = c .before .before .before .before .before .before .before .before .before .before in
-    let n = c .before .before .before .before .before .encode in
-    let f = front _ _ _ _ (n .ensures .1) (n .ensures .0) in
-    let s = passed (c .before .before .before .before .before .before .before .before .lists-right .ensures) (c .before .before .before .before .before .before .before .if1 .left) in
-    let m = sym (sym (c .before .if2 .left) ∙ c .before .before .refusal-of .ensures .0 ∙ ap refusalOf f) in
-    let w = refused (st .args .k) (st .args .stations .now) (st .args .sources .now) (st .args .days .now) (st .args .passes .now) (st .args .room .now) 7 (by-room _ _ _ _ _ (st .args .room .now) s m (rw (n .ensures .0) at (c .if3 .taken))) (λ (z : _≡_ {A = ℕ} 7 0). omega arith) in
-    (sym (w .0), sym (w .1))
+    let s = passed (c .before .before .before .before .before .before .before .before .before .lists-right .ensures) (c .before .before .before .before .before .before .before .before .if1 .left) in
+    let short : length (a .room .now) < length (fileOf (a .k) (a .stations .now) (a .sources .now) (a .days .now) (a .passes .now)) = omega (arith, n .ensures .0, n .ensures .2, c .before .before .if2 .taken) in
+    let e = by-short (a .k) (a .stations .now) (a .sources .now) (a .days .now) (a .passes .now) (a .room .now) s short ∙ ap (λ (x : ℕ). orElse x 7) (sym (c .before .before .before .refusal-of .ensures .0 ∙ ap refusalOf f)) in
+    let w = refused (a .k) (a .stations .now) (a .sources .now) (a .days .now) (a .passes .now) (a .room .now) _ _ (e ∙ sym (c .before .or-else .ensures .0)) (λ z. or-seven (c .before .before .before .refusal-of .result) (sym (c .before .or-else .ensures .0) ∙ z)) in
+    (c .answer2 .ensures ∙ w .0, w .1)
 
 copy-requires : tie.Need-copy-requires
 copy-requires c κs =
     let n = c .before .before .before .before .before .before .encode in
-    let f = front _ _ _ _ (n .ensures .1) (n .ensures .0) in
-    rw f (rw (n .ensures .0) at (c .before .if3 .left))
+    rw (front _ _ _ _ (n .ensures .1) (n .ensures .0)) (omega (arith, n .ensures .0, c .before .before .if2 .left))
 
-bytes-number-requires : tie.Need-bytes-number-requires
-bytes-number-requires c κs = search needs
+answer-requires-3 : tie.Need-answer-requires-3
+answer-requires-3 c κs = search needs
 
 same-length : tie.Need-same-length
-same-length c = search needs
+same-length c = ⊎-elim (λ w. omega (arith, w .2 .kept, ap length (w .5))) (λ w. ap length (w .1)) (c .before .if3 .came)
 
-returns-4 : tie.Need-returns-4
-returns-4 c =
-    let st = c .before .before .before .before .before .before .before .before .before .before .before .before .before .before .before in
-    let n = c .before .before .before .before .before .before .before .before .before .before .encode in
+-- the room is long enough: the file's own number, and the file is stored where that is 0
+returns-3 : tie.Need-returns-3
+returns-3 c =
+    let a = c .before .before .before .before .before .before .before .before .before .before .before .args in
+    let n = c .before .before .before .before .before .before .encode in
     let f = front _ _ _ _ (n .ensures .1) (n .ensures .0) in
-    let s = passed (c .before .before .before .before .before .before .before .before .before .before .before .before .before .lists-right .ensures) (c .before .before .before .before .before .before .before .before .before .before .before .before .if1 .left) in
-    let m = sym (sym (c .before .before .before .before .before .before .if2 .left) ∙ c .before .before .before .before .before .before .before .refusal-of .ensures .0 ∙ ap refusalOf f) in
-    let w = done (st .args .k) (st .args .stations .now) (st .args .sources .now) (st .args .days .now) (st .args .passes .now) (st .args .room .now) (by-none _ _ _ _ _ (st .args .room .now) s m (rw (n .ensures .0) at (c .before .before .before .before .before .if3 .left))) in
-    let g = number-back (c .bytes-number .result) _ _ (c .bytes-number .ok) (c .bytes-number .ensures) (n .ensures .0) in
-    ((λ j. record { refusal = pos 0; value = g j }) ∙ sym (w .0), c .before .before .before .copy .ensures ∙ ap (pasted (st .args .room .now) 0) f ∙ sym (w .1))
+    let s = passed (c .before .before .before .before .before .before .before .before .before .lists-right .ensures) (c .before .before .before .before .before .before .before .before .if1 .left) in
+    let long : length (fileOf (a .k) (a .stations .now) (a .sources .now) (a .days .now) (a .passes .now)) ≤ length (a .room .now) = omega (arith, n .ensures .0, c .before .before .if2 .left) in
+    let e = by-file (a .k) (a .stations .now) (a .sources .now) (a .days .now) (a .passes .now) (a .room .now) s long ∙ sym (c .before .before .before .refusal-of .ensures .0 ∙ ap refusalOf f) in (
+      c .answer3 .ensures ∙ ap₂ answerOf (sym e) (n .ensures .0) ∙ sym (answered (a .k) (a .stations .now) (a .sources .now) (a .days .now) (a .passes .now) (a .room .now)),
+      ⊎-elim
+          (λ w. let z : c .before .before .before .refusal-of .result ≡ 0 = omega (arith, w .0 .taken) in w .5 ∙ w .2 .ensures ∙ ap (pasted (a .room .now) 0) f ∙ sym (room-written (a .k) (a .stations .now) (a .sources .now) (a .days .now) (a .passes .now) (a .room .now) (e ∙ z)))
+          (λ w. w .1 ∙ sym (room-stays (a .k) (a .stations .now) (a .sources .now) (a .days .now) (a .passes .now) (a .room .now) (λ z. w .0 .left (sym e ∙ z))))
+          (c .before .if3 .came),
+    )
 
 pub write-as-spec : {M : Type 1} → statement M
 write-as-spec =
     tie.close
     (tie.spec
     lists-right-requires
+    answer-requires
     returns
     slice-aggregate-encode
     encode-requires
     array-share-prefix-file
     slice-aggregate-part
     refusal-of-requires
-    number-requires
+    or-else-requires
+    answer-requires-2
     returns-2
-    returns-3
     copy-requires
-    bytes-number-requires
+    answer-requires-3
     same-length
-    returns-4)
+    returns-3)

@@ -3,9 +3,9 @@ use lib.ListN.{length}
 use mathlib.Core.Path.{_≡_, ap, sym, _∙_}
 use native.Mathlib.Omega.{arith}
 use borrow.Author.Tests.{leb-true}
-use Rattle.sections.specs.Layouts.{shapeOf}
+use Rattle.sections.specs.Code.{shapeOf}
 use Rattle.sections.specs.File.{countRight, present}
-use Rattle.sections.proofs.Search.{failed, passed}
+use Rattle.whole.proofs.Tests.{failed, passed}
 use borrow.Author.Needs.{needs}
 use Rattle.sections.proofs.contents.count_right.Statement.{statement}
 use Rattle.sections.proofs.contents.count_right.Tie as tie

@@ -4,7 +4,7 @@ use Rattle.sections.specs.declared.layouts.Shape.{Shape}
 use mathlib.Core.Path.{_≡_, ap, sym, _∙_}
 use native.Mathlib.Omega.{arith}
 use Prim.Native.Nat.{_*_}
-use Rattle.sections.specs.Layouts.{shapeOf}
+use Rattle.sections.specs.Code.{shapeOf}
 use Rattle.sections.specs.File.{startOf, sizeOf, countOf}
 use Rattle.sections.proofs.Walk.{count-present, body-small}
 use borrow.Author.Needs.{needs}

@@ -3,10 +3,10 @@ use native.Mathlib.Omega.{arith}
 use borrow.Author.Tests.{leb-true}
 use Prim.Native.Nat.{ℕ}
 use lib.Dec.{ltb}
-use Rattle.sections.specs.Layouts.{shapeOf}
+use Rattle.sections.specs.Code.{shapeOf}
 use Rattle.sections.specs.File.{kindRight}
 use Rattle.sections.specs.declared.layouts.Shape.{Shape}
-use Rattle.sections.proofs.Search.{failed, passed}
+use Rattle.whole.proofs.Tests.{failed, passed}
 use Rattle.sections.proofs.Shapes.{stands-some}
 use borrow.Author.Needs.{needs}
 use Rattle.sections.proofs.contents.kind_right.Statement.{statement}

@@ -1,6 +1,7 @@
 use mathlib.Core.Path.{_≡_, ap, _∙_}
 use Prim.Native.Nat.{ℕ}
-use Rattle.sections.specs.Layouts.{shapeOf, layoutIn}
+use Rattle.sections.specs.Layouts.{layoutIn}
+use Rattle.sections.specs.Code.{shapeOf}
 use borrow.Author.Needs.{needs}
 use Rattle.sections.proofs.contents.layout_of.Statement.{statement}
 use Rattle.sections.proofs.contents.layout_of.Tie as tie

@@ -3,7 +3,7 @@ use native.Mathlib.Omega.{arith}
 use borrow.Author.Tests.{leb-true}
 use lib.Dec.{eqb}
 use Rattle.sections.specs.File.{offsetRight}
-use Rattle.sections.proofs.Search.{failed, passed}
+use Rattle.whole.proofs.Tests.{failed, passed}
 use borrow.Author.Needs.{needs}
 use Rattle.sections.proofs.contents.offset_right.Statement.{statement}
 use Rattle.sections.proofs.contents.offset_right.Tie as tie

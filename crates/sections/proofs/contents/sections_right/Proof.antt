@@ -4,7 +4,7 @@ use borrow.Author.Tests.{leb-true}
 use Prim.Native.Nat.{ℕ}
 use lib.Dec.{eqb}
 use Rattle.sections.specs.File.{sectionsRight}
-use Rattle.sections.proofs.Search.{failed, passed}
+use Rattle.whole.proofs.Tests.{failed, passed}
 use borrow.Author.Needs.{needs}
 use Rattle.sections.proofs.contents.sections_right.Statement.{statement}
 use Rattle.sections.proofs.contents.sections_right.Tie as tie

@@ -1,5 +1,5 @@
 use mathlib.Core.Path.{_≡_, sym}
-use Rattle.sections.proofs.Search.{failed, passed}
+use Rattle.whole.proofs.Tests.{failed, passed}
 use Rattle.sections.proofs.Walk.{entry-kind, entry-offset, entry-count, entry-none}
 use borrow.Author.Needs.{needs}
 use Rattle.sections.proofs.contents.wrong_in_entry.Statement.{statement}

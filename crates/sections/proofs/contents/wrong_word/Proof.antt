@@ -3,10 +3,10 @@ use mathlib.Core.Path.{_≡_, refl, sym, ap, _∙_}
 use Prim.Native.Nat.{ℕ, _+_, _-_, _*_, _≤_, suc}
 use native.Mathlib.Omega.{arith}
 use native.Mathlib.Numerals.{add-one}
-use Rattle.sections.specs.Each.{firstNot}
+use Rattle.whole.specs.Each.{firstNot}
 use Rattle.sections.specs.File.{startOf}
 use Rattle.sections.specs.Table.{wordRight}
-use Rattle.sections.proofs.Search.{failed, passed}
+use Rattle.whole.proofs.Tests.{failed, passed}
 use Rattle.sections.proofs.Walk.{wrong-sections, sections-passed, entry-passed, wrong-entry, wrong-length, wrong-none, entry-counted, entry-three}
 use Rattle.sections.proofs.contents.wrong_word.Statement.{statement}
 use Rattle.sections.proofs.contents.wrong_word.Tie as tie

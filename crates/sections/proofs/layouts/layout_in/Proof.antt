@@ -1,7 +1,8 @@
 use mathlib.Core.Path.{_≡_, sym, ap, _∙_}
 use Prim.Native.Nat.{ℕ}
 use native.Mathlib.Omega.{arith}
-use Rattle.sections.specs.Layouts.{shapeOf, layoutIn, places, station, source, orientation, pass}
+use Rattle.sections.specs.Layouts.{layoutIn, places, station, source, orientation, pass}
+use Rattle.sections.specs.Code.{shapeOf}
 use Rattle.sections.proofs.Shapes.{only-hit, only-miss}
 use borrow.Author.Needs.{needs}
 use Rattle.sections.proofs.layouts.layout_in.Statement.{statement}

@@ -1,5 +1,6 @@
 use mathlib.Core.Path.{refl}
-use Rattle.sections.specs.Layouts.{shapeOf, noLayout}
+use Rattle.sections.specs.Layouts.{noLayout}
+use Rattle.sections.specs.Code.{shapeOf}
 use Rattle.sections.proofs.layouts.no_layout.Statement.{statement}
 use Rattle.sections.proofs.layouts.no_layout.Tie as tie
 

@@ -1,5 +1,6 @@
 use mathlib.Core.Path.{refl}
-use Rattle.sections.specs.Layouts.{shapeOf, orientation}
+use Rattle.sections.specs.Layouts.{orientation}
+use Rattle.sections.specs.Code.{shapeOf}
 use Rattle.sections.proofs.layouts.orientation.Statement.{statement}
 use Rattle.sections.proofs.layouts.orientation.Tie as tie
 

@@ -1,5 +1,6 @@
 use mathlib.Core.Path.{refl}
-use Rattle.sections.specs.Layouts.{shapeOf, pass}
+use Rattle.sections.specs.Layouts.{pass}
+use Rattle.sections.specs.Code.{shapeOf}
 use Rattle.sections.proofs.layouts.pass.Statement.{statement}
 use Rattle.sections.proofs.layouts.pass.Tie as tie
 

@@ -1,5 +1,6 @@
 use mathlib.Core.Path.{refl}
-use Rattle.sections.specs.Layouts.{shapeOf, source}
+use Rattle.sections.specs.Layouts.{source}
+use Rattle.sections.specs.Code.{shapeOf}
 use Rattle.sections.proofs.layouts.source.Statement.{statement}
 use Rattle.sections.proofs.layouts.source.Tie as tie
 

@@ -1,5 +1,6 @@
 use mathlib.Core.Path.{refl}
-use Rattle.sections.specs.Layouts.{shapeOf, station}
+use Rattle.sections.specs.Layouts.{station}
+use Rattle.sections.specs.Code.{shapeOf}
 use Rattle.sections.proofs.layouts.station.Statement.{statement}
 use Rattle.sections.proofs.layouts.station.Tie as tie
 

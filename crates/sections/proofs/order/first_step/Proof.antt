@@ -4,9 +4,10 @@ use Prim.Native.Nat.{_≤_, _-_}
 use native.Mathlib.Omega.{arith}
 use native.Mathlib.Nat.{mul-le-mul-left}
 use native.Mathlib.Numerals.{add-one-le}
-use Rattle.sections.specs.Each.{firstNot}
+use Rattle.whole.specs.Each.{firstNot}
 use Rattle.sections.specs.Code.{stepBy}
-use Rattle.sections.proofs.Search.{first-zero, first-next, first-hit, failed, passed}
+use Rattle.whole.proofs.Tests.{failed, passed}
+use Rattle.whole.proofs.Each.{first-zero, first-next, first-hit}
 use Rattle.sections.proofs.order.first_step.Statement.{statement}
 use Rattle.sections.proofs.order.first_step.Tie as tie
 

@@ -3,10 +3,10 @@ use native.Mathlib.Omega.{arith}
 use Prim.Native.Nat.{ℕ, _-_}
 use lib.Dec.{eqb}
 use borrow.Author.Tests.{eq-eqb, ne-eqb}
-use Rattle.sections.specs.Layouts.{shapeOf}
+use Rattle.sections.specs.Code.{shapeOf}
 use Rattle.sections.specs.File.{layoutOf, orderRight, countOf}
 use Rattle.sections.specs.declared.layouts.Shape.{Shape}
-use Rattle.sections.proofs.Search.{all-first}
+use Rattle.whole.proofs.Each.{all-first}
 use Rattle.sections.proofs.Sound.{table-long, counts-one}
 use borrow.Author.Needs.{needs}
 use Rattle.sections.proofs.order.order_right.Statement.{statement}

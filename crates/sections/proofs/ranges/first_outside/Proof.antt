@@ -2,9 +2,10 @@ use borrow.Author.Needs.{needs}
 use mathlib.Core.Path.{_≡_, sym, _∙_}
 use Prim.Native.Nat.{_≤_, _-_}
 use native.Mathlib.Omega.{arith}
-use Rattle.sections.specs.Each.{firstNot}
+use Rattle.whole.specs.Each.{firstNot}
 use Rattle.sections.specs.Code.{insideBy}
-use Rattle.sections.proofs.Search.{first-zero, first-next, first-hit, failed, passed}
+use Rattle.whole.proofs.Tests.{failed, passed}
+use Rattle.whole.proofs.Each.{first-zero, first-next, first-hit}
 use Rattle.sections.proofs.ranges.first_outside.Statement.{statement}
 use Rattle.sections.proofs.ranges.first_outside.Tie as tie
 

@@ -2,7 +2,7 @@ use mathlib.Core.Path.{_≡_, ap₂, sym, _∙_}
 use native.Mathlib.Omega.{arith}
 use lib.Dec.{eqb}
 use Rattle.sections.specs.File.{sectionRight}
-use Rattle.sections.proofs.Search.{all-first}
+use Rattle.whole.proofs.Each.{all-first}
 use Rattle.sections.proofs.Sound.{table-long}
 use borrow.Author.Needs.{needs}
 use Rattle.sections.proofs.ranges.section_right.Statement.{statement}

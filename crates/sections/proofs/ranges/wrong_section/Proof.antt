@@ -2,9 +2,10 @@ use borrow.Author.Needs.{needs}
 use mathlib.Core.Path.{_≡_, sym}
 use Prim.Native.Nat.{_≤_, _-_}
 use native.Mathlib.Omega.{arith}
-use Rattle.sections.specs.Each.{firstNot}
+use Rattle.whole.specs.Each.{firstNot}
 use Rattle.sections.specs.File.{sectionRight}
-use Rattle.sections.proofs.Search.{first-zero, first-next, first-hit, failed, passed}
+use Rattle.whole.proofs.Tests.{failed, passed}
+use Rattle.whole.proofs.Each.{first-zero, first-next, first-hit}
 use Rattle.sections.proofs.ranges.wrong_section.Statement.{statement}
 use Rattle.sections.proofs.ranges.wrong_section.Tie as tie
 
@@ -23,7 +24,7 @@ section-right-requires c κs = search needs
 returns : tie.Need-returns Inv-loop μ-loop
 returns c =
     let l = c .before .before in
-    sym (first-hit _ (l .before .loop .p) _ (l .loop-test .taken) (l .before .loop .inv .1) (failed (c .before .section-right .ensures) (c .if1 .taken)))
+    sym (first-hit 4 (l .before .loop .p) _ (omega arith) (l .before .loop .inv .1) (failed (c .before .section-right .ensures) (c .if1 .taken)))
 
 add-p : tie.Need-add-p Inv-loop μ-loop
 add-p c = search needs

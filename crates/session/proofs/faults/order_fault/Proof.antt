@@ -2,10 +2,11 @@ use mathlib.Core.Path.{_≡_, refl, ap, sym, _∙_}
 use native.Mathlib.Omega.{arith}
 use Prim.Native.Nat.{ℕ, _+_, _-_}
 use lib.IntN.{pos}
+use Rattle.whole.specs.Each.{firstNot}
 use Rattle.sections.specs.File.{countOf, stepRight}
 use Rattle.session.specs.Fault.{orderFault}
 use Rattle.whole.proofs.Linear.{ret}
-use Rattle.sections.proofs.Search.{first-most}
+use Rattle.whole.proofs.Each.{first-most}
 use Rattle.sections.proofs.Sound.{counts-most}
 use Rattle.session.proofs.Answers.{number-back}
 use borrow.Author.Needs.{needs}
@@ -36,10 +37,12 @@ number-requires-2 c κs =
 returns : tie.Need-returns
 unfolding orderFault
 returns c =
-    let i = ap (λ (n : ℕ). n + 1) (c .before .before .before .wrong-step .ensures) in
+    let st = c .before .before .before .before .before in
+    let s = st .args .s .now in
+    let later = firstNot (countOf s (st .args .p) - 1) (stepRight s (st .args .o) (st .args .p)) + 1 in
     let a = number-back (c .before .before .number .result) _ _ (c .before .before .number .ok) (c .before .before .number .ensures) refl in
     let b = ret (c .before .kind-number .result) (c .before .kind-number .ok) ∙ c .before .kind-number .ensures in
-    let d = number-back (c .number2 .result) _ _ (c .number2 .ok) (c .number2 .ensures) i in
+    let d = number-back (c .number2 .result) _ later (c .number2 .ok) (c .number2 .ensures) (omega (arith, c .before .before .before .wrong-step .ensures)) in
     λ j. record { number = a j; section = b j; «record» = d j; field = pos 0 }
 
 pub order-fault-spec : {M : Type 1} → statement M

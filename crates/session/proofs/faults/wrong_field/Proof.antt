@@ -1,12 +1,11 @@
 use mathlib.Core.Path.{_≡_, ap, _∙_}
 use native.Mathlib.Omega.{arith}
 use Prim.Native.Nat.{ℕ, _+_, _*_}
-use Rattle.sections.specs.Each.{firstNot}
-use Rattle.sections.specs.Layouts.{shapeOf}
+use Rattle.whole.specs.Each.{firstNot}
+use Rattle.sections.specs.Code.{shapeOf, insideBy}
 use Rattle.sections.specs.File.{layoutOf, sizeOf, firstByte, recordByte, fieldRight}
-use Rattle.sections.specs.Code.{insideBy}
 use Rattle.sections.specs.declared.layouts.Shape.{Shape}
-use Rattle.sections.proofs.Search.{first-most}
+use Rattle.whole.proofs.Each.{first-most}
 use Rattle.sections.proofs.Sound.{table-long, record-fits, length-short, size-most, fields-same}
 use borrow.Author.Needs.{needs}
 use Rattle.session.proofs.faults.wrong_field.Statement.{statement}

@@ -1,5 +1,7 @@
 use mathlib.Core.Path.{_≡_, sym, _∙_}
 use native.Mathlib.Omega.{arith}
+use Prim.Native.Nat.{_<_}
+use Rattle.sections.specs.File.{countOf}
 use Rattle.session.proofs.Answers.{asked-refused, asked-there, asked-beyond}
 use borrow.Author.Needs.{needs}
 use Rattle.session.proofs.records.asked.Statement.{statement}
@@ -19,7 +21,9 @@ count-of-requires c κs = search needs
 returns-2 : tie.Need-returns-2
 returns-2 c =
     let n = sym (c .before .before .before .refusal-of .ensures .0) ∙ c .before .before .if1 .left in
-    (sym (asked-there _ _ _ n (rw (c .before .count-of .ensures .0) at (c .if2 .taken))), omega arith)
+    let st = c .before .before .before .before .before in
+    let l : st .args .i < countOf (st .args .s .now) (st .args .p) = omega (arith, c .before .count-of .ensures .0, c .if2 .taken) in
+    (sym (asked-there _ _ _ n l), omega arith)
 
 returns-3 : tie.Need-returns-3
 returns-3 c =

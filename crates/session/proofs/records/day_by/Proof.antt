@@ -5,11 +5,6 @@ use Rattle.session.proofs.Laws.{day-by, day-absent}
 use borrow.Author.Needs.{needs}
 use Rattle.session.proofs.records.day_by.Statement.{statement}
 use Rattle.session.proofs.records.day_by.Tie as tie
-use Rattle.session.proofs.records.day_by.Reads as reads
-use Rattle.session.proofs.records.day_by.Lts as lts
-use Rattle.sections.proofs.refusal.count_of.Reads as count-of-reads
-use Rattle.session.proofs.records.day_of.Reads as day-of-reads
-use Rattle.session.proofs.records.day_place.Reads as day-place-reads
 
 day-place-requires : tie.Need-day-place-requires
 day-place-requires c κs = search needs
@@ -27,13 +22,16 @@ returns c =
     let f : c .before .before .before .day-place .result ≡ placeBy s 2 (st .args .mjd) = c .before .before .before .day-place .ensures ∙ ap (placeBy s 2) (toZ-ofZ (st .fits .mjd)) in
     c .day-of .ensures ∙ ap (dayOf s) f ∙ sym (day-by s (st .args .mjd) (rw (f, c .before .before .count-of .ensures .0) at (c .before .if1 .taken)))
 
+no-day-requires : tie.Need-no-day-requires
+no-day-requires c κs = search needs
+
 returns-2 : tie.Need-returns-2
 returns-2 c =
-    let st = c .before .before .before .before in
+    let st = c .before .before .before .before .before in
     let s = st .args .s .now in
-    let f : c .before .before .day-place .result ≡ placeBy s 2 (st .args .mjd) = c .before .before .day-place .ensures ∙ ap (placeBy s 2) (toZ-ofZ (st .fits .mjd)) in
-    sym (day-absent s (st .args .mjd) (rw (f, c .before .count-of .ensures .0) at (c .if1 .left)))
+    let f : c .before .before .before .day-place .result ≡ placeBy s 2 (st .args .mjd) = c .before .before .before .day-place .ensures ∙ ap (placeBy s 2) (toZ-ofZ (st .fits .mjd)) in
+    c .no-day .ensures ∙ sym (day-absent s (st .args .mjd) (rw (f, c .before .before .count-of .ensures .0) at (c .before .if1 .left)))
 
 pub day-by-spec : {M : Type 1} → statement M
 day-by-spec =
-    tie.close (tie.spec day-place-requires count-of-requires day-of-requires returns returns-2)
+    tie.close (tie.spec day-place-requires count-of-requires day-of-requires returns no-day-requires returns-2)

@@ -32,11 +32,11 @@ returns c =
     let s = c .before .before .before .before .before .before .before .args .s .now in
     let b = c .before .before .before .before .before .record-byte in
     let at = recordByte s 2 (c .before .before .before .before .before .before .before .args .i) in
-    let f0 = field-back s (c .before .before .before .before .field-at .result) (b .result) at 0 (c .before .before .before .before .field-at .ok) (c .before .before .before .before .field-at .ensures) (b .ensures .0) in
-    let f1 = field-back s (c .before .before .before .field-at2 .result) (b .result) at 1 (c .before .before .before .field-at2 .ok) (c .before .before .before .field-at2 .ensures) (b .ensures .0) in
-    let f2 = field-back s (c .before .before .field-at3 .result) (b .result) at 2 (c .before .before .field-at3 .ok) (c .before .before .field-at3 .ensures) (b .ensures .0) in
-    let f3 = field-back s (c .before .field-at4 .result) (b .result) at 3 (c .before .field-at4 .ok) (c .before .field-at4 .ensures) (b .ensures .0) in
-    let f4 = field-back s (c .field-at5 .result) (b .result) at 4 (c .field-at5 .ok) (c .field-at5 .ensures) (b .ensures .0) in
+    let f0 = field-back s (c .before .before .before .before .field-at .result) _ at 0 (c .before .before .before .before .field-at .ok) (c .before .before .before .before .field-at .ensures) (omega (arith, b .ensures .0)) in
+    let f1 = field-back s (c .before .before .before .field-at2 .result) _ at 1 (c .before .before .before .field-at2 .ok) (c .before .before .before .field-at2 .ensures) (omega (arith, b .ensures .0)) in
+    let f2 = field-back s (c .before .before .field-at3 .result) _ at 2 (c .before .before .field-at3 .ok) (c .before .before .field-at3 .ensures) (omega (arith, b .ensures .0)) in
+    let f3 = field-back s (c .before .field-at4 .result) _ at 3 (c .before .field-at4 .ok) (c .before .field-at4 .ensures) (omega (arith, b .ensures .0)) in
+    let f4 = field-back s (c .field-at5 .result) _ at 4 (c .field-at5 .ok) (c .field-at5 .ensures) (omega (arith, b .ensures .0)) in
     λ j. record { refusal = pos 0; mjd = f0 j; x = f1 j; y = f2 j; «ut1_utc» = f3 j; «tai_utc» = f4 j }
 
 pub day-of-spec : {M : Type 1} → statement M

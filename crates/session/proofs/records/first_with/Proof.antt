@@ -8,9 +8,9 @@ use native.Mathlib.Omega.{arith}
 use native.Mathlib.Nat.{mul-le-mul-left}
 use native.Mathlib.Numerals.{add-one-le}
 use mir.Facts.{toZ-ofZ}
-use Rattle.sections.specs.Each.{firstNot}
+use Rattle.whole.specs.Each.{firstNot}
 use Rattle.sections.specs.Code.{otherBy}
-use Rattle.sections.proofs.Search.{first-zero, first-next, first-hit}
+use Rattle.whole.proofs.Each.{first-zero, first-next, first-hit}
 use Rattle.session.proofs.records.first_with.Statement.{statement}
 use Rattle.session.proofs.records.first_with.Tie as tie
 

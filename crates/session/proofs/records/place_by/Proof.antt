@@ -2,7 +2,7 @@ use mathlib.Core.Path.{_≡_, ap, sym, _∙_}
 use native.Mathlib.Omega.{arith}
 use Prim.Native.Nat.{ℕ, _*_}
 use mir.Facts.{toZ-ofZ}
-use Rattle.sections.specs.Layouts.{shapeOf}
+use Rattle.sections.specs.Code.{shapeOf}
 use Rattle.sections.specs.File.{sizeOf, countOf}
 use Rattle.session.specs.Records.{placeBy}
 use Rattle.sections.specs.declared.layouts.Shape.{Shape}

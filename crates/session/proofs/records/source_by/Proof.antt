@@ -24,15 +24,18 @@ returns c =
     let l = rw (f, c .before .before .count-of .ensures .0) at (c .before .if1 .taken) in
     rw (lt-ltb _ _ l) (c .source-of .ensures ∙ ap (sourceOf s) f)
 
+no-source-requires : tie.Need-no-source-requires
+no-source-requires c κs = search needs
+
 returns-2 : tie.Need-returns-2
 unfolding sourceBy
 returns-2 c =
-    let st = c .before .before .before .before in
+    let st = c .before .before .before .before .before in
     let s = st .args .s .now in
-    let f : c .before .before .place-by .result ≡ placeBy s 1 (st .args .id) = c .before .before .place-by .ensures ∙ ap (placeBy s 1) (toZ-ofZ (st .fits .id)) in
-    let l = rw (f, c .before .count-of .ensures .0) at (c .if1 .left) in
-    rw (le-ltb _ _ l)
+    let f : c .before .before .before .place-by .result ≡ placeBy s 1 (st .args .id) = c .before .before .before .place-by .ensures ∙ ap (placeBy s 1) (toZ-ofZ (st .fits .id)) in
+    let l = rw (f, c .before .before .count-of .ensures .0) at (c .before .if1 .left) in
+    rw (le-ltb _ _ l) (c .no-source .ensures)
 
 pub source-by-spec : {M : Type 1} → statement M
 source-by-spec =
-    tie.close (tie.spec place-by-requires count-of-requires source-of-requires returns returns-2)
+    tie.close (tie.spec place-by-requires count-of-requires source-of-requires returns no-source-requires returns-2)

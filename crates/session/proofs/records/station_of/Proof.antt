@@ -29,10 +29,10 @@ returns c =
     let s = c .before .before .before .before .before .before .args .s .now in
     let b = c .before .before .before .before .record-byte in
     let at = recordByte s 0 (c .before .before .before .before .before .before .args .i) in
-    let f0 = field-back s (c .before .before .before .field-at .result) (b .result) at 0 (c .before .before .before .field-at .ok) (c .before .before .before .field-at .ensures) (b .ensures .0) in
-    let f1 = field-back s (c .before .before .field-at2 .result) (b .result) at 1 (c .before .before .field-at2 .ok) (c .before .before .field-at2 .ensures) (b .ensures .0) in
-    let f2 = field-back s (c .before .field-at3 .result) (b .result) at 2 (c .before .field-at3 .ok) (c .before .field-at3 .ensures) (b .ensures .0) in
-    let f3 = field-back s (c .field-at4 .result) (b .result) at 3 (c .field-at4 .ok) (c .field-at4 .ensures) (b .ensures .0) in
+    let f0 = field-back s (c .before .before .before .field-at .result) _ at 0 (c .before .before .before .field-at .ok) (c .before .before .before .field-at .ensures) (omega (arith, b .ensures .0)) in
+    let f1 = field-back s (c .before .before .field-at2 .result) _ at 1 (c .before .before .field-at2 .ok) (c .before .before .field-at2 .ensures) (omega (arith, b .ensures .0)) in
+    let f2 = field-back s (c .before .field-at3 .result) _ at 2 (c .before .field-at3 .ok) (c .before .field-at3 .ensures) (omega (arith, b .ensures .0)) in
+    let f3 = field-back s (c .field-at4 .result) _ at 3 (c .field-at4 .ok) (c .field-at4 .ensures) (omega (arith, b .ensures .0)) in
     λ j. record { refusal = pos 0; id = f0 j; x = f1 j; y = f2 j; z = f3 j }
 
 pub station-of-spec : {M : Type 1} → statement M

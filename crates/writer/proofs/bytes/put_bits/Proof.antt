@@ -1,4 +1,4 @@
-use Rattle.writer.specs.Bytes.{putBits}
+use Rattle.writer.specs.Code.{putBits}
 use borrow.Author.Needs.{needs}
 use Rattle.writer.proofs.bytes.put_bits.Statement.{statement}
 use Rattle.writer.proofs.bytes.put_bits.Tie as tie

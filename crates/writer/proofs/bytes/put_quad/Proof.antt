@@ -1,4 +1,4 @@
-use Rattle.writer.specs.Bytes.{putQuad}
+use Rattle.writer.specs.Code.{putQuad}
 use borrow.Author.Needs.{needs}
 use Rattle.writer.proofs.bytes.put_quad.Statement.{statement}
 use Rattle.writer.proofs.bytes.put_quad.Tie as tie

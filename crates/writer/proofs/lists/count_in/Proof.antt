@@ -1,7 +1,7 @@
 use mathlib.Core.Path.{_≡_, ap, sym, _∙_}
 use native.Mathlib.Omega.{arith}
 use Prim.Native.Nat.{ℕ, _/_, _<_}
-use Rattle.sections.specs.Layouts.{shapeOf}
+use Rattle.sections.specs.Code.{shapeOf}
 use Rattle.sections.specs.declared.layouts.Shape.{Shape}
 use Rattle.writer.specs.Writing.{sizeIn}
 use borrow.Author.Needs.{needs}

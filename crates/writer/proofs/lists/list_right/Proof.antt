@@ -2,7 +2,8 @@ use mathlib.Core.Path.{_≡_, ap, sym, _∙_}
 use native.Mathlib.Omega.{arith}
 use native.Mathlib.Nat.{mul-div-le}
 use Prim.Native.Nat.{ℕ, _*_, _/_, _%_, _<_, _≤_}
-use Rattle.sections.specs.Layouts.{shapeOf, layoutIn}
+use Rattle.sections.specs.Layouts.{layoutIn}
+use Rattle.sections.specs.Code.{shapeOf}
 use Rattle.sections.specs.declared.layouts.Shape.{Shape}
 use Rattle.writer.specs.Writing.{sizeIn}
 use Rattle.writer.proofs.Counts.{list-none, list-broken, list-few, list-is, positive}
@@ -43,7 +44,9 @@ returns-3 c =
     let e = c .before .before .before .before .layout-in .ensures in
     let z : c .before .before .before .before .layout-in .result .size ≡ sizeIn (st .args .place) (st .args .kind) = ap (λ (l : Shape). l .size) e in
     let a = positive _ (λ f. c .before .before .before .if1 .left (z ∙ f)) in
-    sym (list-few _ _ _ a (rw z at (c .before .before .if2 .left)) (rw (z, ap (λ (l : Shape). l .fewest) e) at (c .if3 .taken)))
+    let t = rw (z, ap (λ (l : Shape). l .fewest) e) at (c .if3 .taken) in
+    let few : st .args .n / sizeIn (st .args .place) (st .args .kind) < layoutIn (st .args .place) (st .args .kind) .fewest = omega (arith, t) in
+    sym (list-few _ _ _ a (rw z at (c .before .before .if2 .left)) few)
 
 returns-4 : tie.Need-returns-4
 unfolding shapeOf

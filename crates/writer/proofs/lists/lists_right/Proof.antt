@@ -1,5 +1,5 @@
 use mathlib.Core.Path.{_≡_, ap, sym, _∙_}
-use Rattle.sections.proofs.Search.{failed, passed}
+use Rattle.whole.proofs.Tests.{failed, passed}
 use Rattle.writer.specs.Writing.{listsRight}
 use borrow.Author.Needs.{needs}
 use Rattle.writer.proofs.lists.lists_right.Statement.{statement}
