@@ -51,6 +51,11 @@ module _ (test : ℕ → ℕ → Bool) (f m c : ℕ) where
       e : m - c ≡ 0
       e = omega arith
 
+-- one sample leaves every rate; and one sample more
+pub lo-none : (g : ℕ → ℕ) (w N f : ℕ) → 0 ≡ lo g w N f 1
+unfolding lo rowLo
+lo-none g w N f = refl
+
 pub lo-step : (g : ℕ → ℕ) (w N f c l r : ℕ) → l ≡ lo g w N f c → r ≡ rowLo g w N f (f + c) c l → r ≡ lo g w N f (c + 1)
 unfolding lo
 lo-step g w N f c l r hl hr = rw add-one (hr ∙ ap (λ (z : ℕ). rowLo g w N f (f + c) c z) hl)
