@@ -6,8 +6,7 @@ use native.Mathlib.Nat.{mul-le-mul-left}
 use native.Mathlib.Omega.{arith}
 use lib.ListN.{getD}
 use Rattle.fit.specs.Rates.{lo, tilt}
-use Rattle.fit.specs.Chains.{Order, Chain, Safe, Full, Paired, Asked, Added}
-use Rattle.fit.proofs.Steps.{lo-step}
+use Rattle.fit.specs.Chains.{Order, Chain, Safe, Full, Paired, Added}
 
 pub record Half (g : ℕ → ℕ) (w f : ℕ) (x v q : List ℕ) (c l i j : ℕ) : Type 0 where
   pub full : Full x v q
@@ -40,9 +39,6 @@ module _ (g : ℕ → ℕ) (w f : ℕ) where
 
         start : (f : ℕ) → g f ≡ (tilt + 1) * 0 + g (f + 0)
         start f = let e : g f ≡ g (f + 0) = ap g (plain f) in omega arith
-
-    pub asked : (x v q : List ℕ) (c l i j a b k p : ℕ) → Half g w f x v q c l i j → Asked tilt x v q i j c a b l k p → b ≡ 2 * w → a ≡ (tilt + 1) * c + g (f + c) → Next g w f x v q c p k j
-    asked x v q c l i j a b k p h r e d = let n = r g f w bound e d (h .chain) in record { rate = lo-step g w tilt f c l p (h .rate) (n .0); chain = n .1 }
 
     pub added : (x v q x′ v′ q′ : List ℕ) (c p i j a y : ℕ) → Next g w f x v q c p i j → j < c → Full x′ v′ q′ → y ≤ j + 1 → Added tilt x v q i j c a x′ v′ q′ y → a ≡ (tilt + 1) * c + g (f + c)
         → Half g w f x′ v′ q′ (c + 1) p i y

@@ -7,8 +7,8 @@ use Rattle.fit.specs.Greedy.{grow}
 use Rattle.fit.specs.Rates.{scaled, tilt, fitOf, hi, mirror}
 use Rattle.fit.proofs.Lines.{bound, fits-two}
 use Rattle.fit.proofs.Mirror.{mirror-bound, hi-mirror, lo-top}
-use Rattle.fit.proofs.Steps.{lo-none, fit-yes, fit-no, grow-yes, grow-no, grow-end}
-use Rattle.fit.proofs.Halves.{Half, Next, paired, safe, asked, added}
+use Rattle.fit.proofs.Steps.{lo-none, lo-step, fit-yes, fit-no, grow-yes, grow-no, grow-end}
+use Rattle.fit.proofs.Halves.{Half, Next, paired, safe, added}
 use Rattle.fit.proofs.run.longest_run.Statement.{statement}
 use Rattle.fit.proofs.run.longest_run.Tie as tie
 
@@ -148,16 +148,16 @@ sub-b-2 c = omega (arith, value c)
 -- the halves after the sample is asked of them
 nextA : (c : tie.After-ask Inv-loop μ-loop) → let a = c .before .before .before .before .before .before in let y = begin a .args in
     Next (scaled (y .samples .now)) (65536 * y .tolerance) (y .first) (a .loop .xa) (a .loop .va) (a .loop .qa) (a .loop .c) (c .ask .result .rate) (c .ask .result .at) (a .loop .j)
-nextA c = let d = c .before .before .before .before in let a = d .before .before in let y = begin a .args in
-    asked (scaled (y .samples .now)) (65536 * y .tolerance) (y .first) (lim (begin a)) (a .loop .xa) (a .loop .va) (a .loop .qa) (a .loop .c) (a .loop .l) (a .loop .i) (a .loop .j)
-    ((tilt + 1) * a .loop .c + d .scaled-at3 .result) (2 * (65536 * y .tolerance)) (c .ask .result .at) (c .ask .result .rate) (a .loop .inv .3) (c .ask .ensures .2) refl (heightA d)
+nextA c = let d = c .before .before .before .before in let a = d .before .before in let y = begin a .args in let g = scaled (y .samples .now) in let w = 65536 * y .tolerance in
+    let n = c .ask .ensures .2 g (y .first) w (lim (begin a)) refl (heightA d) (a .loop .inv .3 .chain) in
+    record { rate = lo-step g w tilt (y .first) (a .loop .c) (a .loop .l) (c .ask .result .rate) (a .loop .inv .3 .rate) (n .0); chain = n .1 }
 
 nextB : (c : tie.After-ask2 Inv-loop μ-loop) → let a = c .before .before .before .before .before .before .before .before .before .before in let y = begin a .args in
     Next (mirror (scaled (y .samples .now)) (65536 * y .tolerance) tilt) (65536 * y .tolerance) (y .first) (a .loop .xb) (a .loop .vb) (a .loop .qb) (a .loop .c) (c .ask2 .result .rate) (c .ask2 .result .at) (a .loop .n)
 nextB c = let d = c .before .before .before .before .before .before .before .before in let a = d .before .before in let y = begin a .args in
-    asked (mirror (scaled (y .samples .now)) (65536 * y .tolerance) tilt) (65536 * y .tolerance) (y .first) (mlim (begin a)) (a .loop .xb) (a .loop .vb) (a .loop .qb) (a .loop .c) (a .loop .h) (a .loop .k) (a .loop .n)
-    ((tilt + 1) * a .loop .c + tilt - 2 * (65536 * y .tolerance) - d .scaled-at3 .result) (2 * (65536 * y .tolerance)) (c .ask2 .result .at) (c .ask2 .result .rate) (a .loop .inv .4) (c .ask2 .ensures .2) refl
-    (heightB d)
+    let g = mirror (scaled (y .samples .now)) (65536 * y .tolerance) tilt in let w = 65536 * y .tolerance in
+    let n = c .ask2 .ensures .2 g (y .first) w (mlim (begin a)) refl (heightB d) (a .loop .inv .4 .chain) in
+    record { rate = lo-step g w tilt (y .first) (a .loop .c) (a .loop .h) (c .ask2 .result .rate) (a .loop .inv .4 .rate) (n .0); chain = n .1 }
 
 -- the greatest rate, and that neither rate is above twice the tilt
 high : (c : tie.After-ask2 Inv-loop μ-loop) → let a = c .before .before .before .before .before .before .before .before .before .before in let y = begin a .args in
@@ -224,13 +224,14 @@ loop-less c = let e = c .before .before .before .before .before .before .before 
 
 loop-again : tie.Need-loop-again Inv-loop μ-loop
 loop-again c = let e = c .before .before .before .before .before .before .before .before in let q = e .before .before .before in let k = q .before .before .before .before in let d = k .before .before .before .before in
-    let a = d .before .before in let x = begin a .args in let z = c .before .before .before .before in (
+    let a = d .before .before in let x = begin a .args in let z = c .before .before .before .before in
+    let b = added (scaled (x .samples .now)) (65536 * x .tolerance) (x .first) (lim (begin a)) (a .loop .xa) (a .loop .va) (a .loop .qa) _ _ _ (a .loop .c) (k .ask .result .rate) (k .ask .result .at) (a .loop .j) ((tilt + 1) * a .loop .c + d .scaled-at3 .result) (z .add .result)
+    (nextA k) (a .loop .inv .3 .ends) (z .add .ensures .0) (z .add .ensures .2) (z .add .ensures .3) (heightA d) in (
       omega arith,
       omega (arith, d .before .loop-test .taken),
       grow-yes (fitOf (x .samples .now) (x .tolerance)) (x .first) (x .most) (a .loop .c) (d .before .loop-test .taken)
           (fit-yes (x .samples .now) (x .tolerance) (x .first) (a .loop .c + 1) _ _ (nextA k .rate) (high q .0) (omega (arith, e .if2 .left, high q .1))) ∙ a .loop .inv .2,
-      added (scaled (x .samples .now)) (65536 * x .tolerance) (x .first) (lim (begin a)) (a .loop .xa) (a .loop .va) (a .loop .qa) _ _ _ (a .loop .c) (k .ask .result .rate) (k .ask .result .at) (a .loop .j) ((tilt + 1) * a .loop .c + d .scaled-at3 .result) (z .add .result)
-          (nextA k) (a .loop .inv .3 .ends) (z .add .ensures .0) (z .add .ensures .2) (z .add .ensures .3) (heightA d),
+      record { full = b .full; rate = omega (arith, b .rate); ends = b .ends; chain = b .chain },
       added (mirror (scaled (x .samples .now)) (65536 * x .tolerance) tilt) (65536 * x .tolerance) (x .first) (mlim (begin a)) (a .loop .xb) (a .loop .vb) (a .loop .qb) _ _ _ (a .loop .c) (q .ask2 .result .rate) (q .ask2 .result .at) (a .loop .n)
           ((tilt + 1) * a .loop .c + tilt - 2 * (65536 * x .tolerance) - d .scaled-at3 .result) (c .add2 .result)
           (nextB q) (a .loop .inv .4 .ends) (c .add2 .ensures .0) (c .add2 .ensures .2) (c .add2 .ensures .3)
