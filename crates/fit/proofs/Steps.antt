@@ -20,6 +20,9 @@ use Rattle.fit.proofs.Diff.{sub-ind, sub-pos, sub-sub, sub-eq}
 pub small-back : (z : ℤ) → ∣ z ∣ ≤ 130_000_000_000 → toZ w64 (ofZ w64 z) ≡ z
 small-back z h = back (abs-fits (omega arith))
 
+pub small-bits : (z : ℤ) → ∣ z ∣ ≤ 130_000_000_000 → ∣ toZ w64 (ofZ w64 z) ∣ ≤ 130_000_000_000
+small-bits z h = subst (λ (y : ℤ). ∣ y ∣ ≤ 130_000_000_000) (sym (small-back z h)) h
+
 -- a run of c samples grown, as the code grows it, to at most m
 true-of : (b : Bool) → T b → b ≡ true
 true-of true h = refl

@@ -2,7 +2,6 @@
 use mathlib.Core.Path.{_≡_, refl, sym, ap, _∙_}
 use Prim.Native.Nat.{ℕ, _+_, _*_, _-_, _≤_, _<_}
 use native.Mathlib.Omega.{arith}
-use borrow.Author.Needs.{needs}
 use Rattle.fit.specs.Greedy.{grow}
 use Rattle.fit.specs.Rates.{scaled, tilt, fitOf, hi, mirror}
 use Rattle.fit.proofs.Lines.{bound, fits-two}
