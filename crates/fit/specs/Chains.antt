@@ -53,7 +53,7 @@ pub record Full (x v q : List ℕ) : Type 0 where
 abbrev pub leftAt : List ℕ → List ℕ → ℕ → ℕ → ℕ → ℕ
 leftAt x v i m t = (t - getD v i 0) / (m - getD x i 0)
 
--- the chain of the first two samples, whose tilted values are a and b, and the least rate that they leave
+-- the chain of the first two samples, whose tilted values are a and b, and the least rate r that they leave, with twice the tolerance s
 abbrev pub Paired : ℕ → List ℕ → List ℕ → List ℕ → ℕ → ℕ → ℕ → ℕ → Type 0
 Paired N x v q a b s r = (g : ℕ → ℕ) (f w : ℕ) → ((i : ℕ) → g i + 2 * w ≤ N) → s ≡ 2 * w → a ≡ (N + 1) * 0 + g (f + 0) → b ≡ (N + 1) * 1 + g (f + 1) → (r ≡ lo g w N f 2) × Chain g N f x v q 0 1 2 r
 

@@ -19,7 +19,7 @@ pub struct Run {
 
 // The longest run of at most `most` samples from `first` that some line fits: found by two chains, one of the samples and one of the samples
 // turned over, which the arrays are lent to hold. xa, va, qa hold the first, from i to j; xb, vb, qb the second, from k to n; l and h are the least rates of
-// both, and the run fits while their sum is at most twice the tilt.
+// both, and the run fits while their sum is at most twice the tilt. Two samples always fit.
 pub fn longest_run(
     samples: &[i64],
     tolerance: u64,
