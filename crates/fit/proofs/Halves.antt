@@ -1,15 +1,12 @@
 -- The two halves of the search for the longest run: the chain of the samples, and that of the samples upside down.
-use mathlib.Core.Path.{_≡_, refl, ap, _∙_}
+use mathlib.Core.Path.{_≡_, ap, _∙_}
 use mathlib.Core.List.{List}
 use Prim.Native.Nat.{ℕ, _+_, _*_, _-_, _≤_, _<_}
 use native.Mathlib.Nat.{mul-le-mul-left}
 use native.Mathlib.Omega.{arith}
-use lib.ListN.{getD, set, length-set}
-use lib.Seq.{getD-set-same}
-use Rattle.fit.specs.Rates.{lo, rowLo, tilt}
-use Rattle.fit.specs.Chains.{Order, Chain, Safe, Full, Asked, Added}
-use Rattle.fit.proofs.Hull.{chain-one}
-use Rattle.fit.proofs.Steps.{lo-step}
+use lib.ListN.{getD}
+use Rattle.fit.specs.Rates.{lo, tilt}
+use Rattle.fit.specs.Chains.{Order, Chain, Safe, Full, Paired, Added}
 
 pub record Half (g : ℕ → ℕ) (w f : ℕ) (x v q : List ℕ) (c l i j : ℕ) : Type 0 where
   pub full : Full x v q
@@ -22,22 +19,6 @@ pub record Next (g : ℕ → ℕ) (w f : ℕ) (x v q : List ℕ) (c p i j : ℕ)
   pub chain : Chain g tilt f x v q i j c p
 
 module _ (g : ℕ → ℕ) (w f : ℕ) where
-  pub first : (x v q : List ℕ) (a : ℕ) → Full x v q → a ≡ g f → Half g w f (set x 0 0) (set v 0 a) q 1 0 0 0
-  unfolding lo rowLo
-  first x v q a u h = record {
-    full = record { full-x = simp length-set (u .full-x); full-v = simp length-set (u .full-v); full-q = u .full-q };
-    rate = refl;
-    ends = omega arith;
-    chain = chain-one g tilt f (set x 0 0) (set v 0 a) q (getD-set-same x 0 0 0 (omega (arith, u .full-x)))
-        (getD-set-same v 0 a 0 (omega (arith, u .full-v)) ∙ h ∙ start f);
-  }
-    where
-      plain : (f : ℕ) → f ≡ f + 0
-      plain f = omega arith
-
-      start : (f : ℕ) → g f ≡ (tilt + 1) * 0 + g (f + 0)
-      start f = let e : g f ≡ g (f + 0) = ap g (plain f) in omega arith
-
   module _ (bound : (i : ℕ) → g i + 2 * w ≤ tilt) where
     -- an earlier sample is at least the tilt below
     pub below : (k c a : ℕ) → k < c → a ≡ (tilt + 1) * c + g (f + c) → (tilt + 1) * k + g (f + k) + 2 * w < a
@@ -50,8 +31,14 @@ module _ (g : ℕ → ℕ) (w f : ℕ) where
       small = λ k d r. omega (arith, o .value k d r, below (getD x k 0) c a (o .before k d r) e);
     }
 
-    pub asked : (x v q : List ℕ) (c l i j a b k p : ℕ) → Half g w f x v q c l i j → Asked tilt x v q i j c a b l k p → b ≡ 2 * w → a ≡ (tilt + 1) * c + g (f + c) → Next g w f x v q c p k j
-    asked x v q c l i j a b k p h r e d = let n = r g f w bound e d (h .chain) in record { rate = lo-step g w tilt f c l p (h .rate) (n .0); chain = n .1 }
+    pub paired : (x v q : List ℕ) (a b s r : ℕ) → Full x v q → Paired tilt x v q a b s r → s ≡ 2 * w → a ≡ g f → b ≡ tilt + 1 + g (f + 1) → Half g w f x v q 2 r 0 1
+    paired x v q a b s r u n e h k = let y = n g f w bound e (h ∙ start f) (omega arith) in record { full = u; rate = y .0; ends = omega arith; chain = y .1 }
+      where
+        plain : (f : ℕ) → f ≡ f + 0
+        plain f = omega arith
+
+        start : (f : ℕ) → g f ≡ (tilt + 1) * 0 + g (f + 0)
+        start f = let e : g f ≡ g (f + 0) = ap g (plain f) in omega arith
 
     pub added : (x v q x′ v′ q′ : List ℕ) (c p i j a y : ℕ) → Next g w f x v q c p i j → j < c → Full x′ v′ q′ → y ≤ j + 1 → Added tilt x v q i j c a x′ v′ q′ y → a ≡ (tilt + 1) * c + g (f + c)
         → Half g w f x′ v′ q′ (c + 1) p i y

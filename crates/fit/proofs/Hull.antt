@@ -2,14 +2,14 @@
 use mathlib.Core.Path.{_≡_, refl, sym, ap, subst, _∙_}
 use mathlib.Core.List.{List}
 use Prim.Native.Nat.{ℕ, zero, suc, _+_, _*_, _/_, _-_, _≤_, _<_}
-use native.Mathlib.Nat.{mul-add, add-mul, mul-one}
+use native.Mathlib.Nat.{add-mul, mul-one}
 use mathlib.Core.Logic.{_↔_, _⊎_, inl, inr, ⊎-elim}
 use native.Mathlib.Omega.{arith}
 use lib.ListN.{getD, set, length}
 use lib.Seq.{getD-set-same, getD-set-other}
 use Rattle.fit.specs.Rates.{low, rowLo}
 use Rattle.fit.specs.Chains.{Leaves, Under, Order, Covers, Nearly, Chain}
-use Rattle.fit.proofs.Pairs.{low-le, Above, rowLo-le}
+use Rattle.fit.proofs.Pairs.{low-le, Above, rowLo-le, split}
 use Rattle.fit.proofs.Tests.{lt-or, at-or}
 
 -- a difference that is one less stands for one that is rounded up
@@ -17,9 +17,6 @@ one-less : (a b v t z G p q : ℕ) → a + q ≡ b + (G + z + p) → q + v ≤ G
 one-less a b v t z G p q s o h e = omega arith
 
 module _ (g : ℕ → ℕ) (N f : ℕ) where
-  split : (p k j z : ℕ) → j ≡ k + z → p * j ≡ p * k + p * z
-  split p k j z e = ap (λ (t : ℕ). p * t) e ∙ mul-add p k z
-
   -- a rate is left where it is no less than the least
   pub low-leaves : (w p k j : ℕ) → k < j → (low g w N (f + k) (f + j) ≤ p) ↔ Leaves g N f (2 * w) p k j
   low-leaves w p k j h = (

@@ -154,10 +154,10 @@ off-le g w N p f (suc c) a h = omega (arith, off-le g w N p f c a (λ j l. h j (
 pub off-least : (g : ℕ → ℕ) (w N a p f c : ℕ) → FitsN g w N a p f c → off g w N p f c ≤ a
 off-least g w N a p f c h = off-le g w N p f c a (λ j l. omega (arith, h j l .1))
 
-module _ (g : ℕ → ℕ) (w N : ℕ) (bound : (i : ℕ) → g i + 2 * w ≤ N) where
-  split : (p i b z : ℕ) → b ≡ i + z → p * b ≡ p * i + p * z
-  split p i b z e = ap (λ (t : ℕ). p * t) e ∙ mul-add p i z
+pub split : (p i b z : ℕ) → b ≡ i + z → p * b ≡ p * i + p * z
+split p i b z e = ap (λ (t : ℕ). p * t) e ∙ mul-add p i z
 
+module _ (g : ℕ → ℕ) (w N : ℕ) (bound : (i : ℕ) → g i + 2 * w ≤ N) where
   pair-of : (p f c i b : ℕ) → lo g w N f c ≤ p → p ≤ hi g w N f c → i < b → b < c → Pair g w N p f i b
   pair-of p f c i b l u h k =
       let z : ℕ = (f + b) - (f + i) in

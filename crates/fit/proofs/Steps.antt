@@ -20,6 +20,9 @@ use Rattle.fit.proofs.Diff.{sub-ind, sub-pos, sub-sub, sub-eq}
 pub small-back : (z : ℤ) → ∣ z ∣ ≤ 130_000_000_000 → toZ w64 (ofZ w64 z) ≡ z
 small-back z h = back (abs-fits (omega arith))
 
+pub small-bits : (z : ℤ) → ∣ z ∣ ≤ 130_000_000_000 → ∣ toZ w64 (ofZ w64 z) ∣ ≤ 130_000_000_000
+small-bits z h = subst (λ (y : ℤ). ∣ y ∣ ≤ 130_000_000_000) (sym (small-back z h)) h
+
 -- a run of c samples grown, as the code grows it, to at most m
 true-of : (b : Bool) → T b → b ≡ true
 true-of true h = refl
@@ -51,6 +54,11 @@ module _ (test : ℕ → ℕ → Bool) (f m c : ℕ) where
       e : m - c ≡ 0
       e = omega arith
 
+-- one sample leaves every rate; and one sample more
+pub lo-none : (g : ℕ → ℕ) (w N f : ℕ) → 0 ≡ lo g w N f 1
+unfolding lo rowLo
+lo-none g w N f = refl
+
 pub lo-step : (g : ℕ → ℕ) (w N f c l r : ℕ) → l ≡ lo g w N f c → r ≡ rowLo g w N f (f + c) c l → r ≡ lo g w N f (c + 1)
 unfolding lo
 lo-step g w N f c l r hl hr = rw add-one (hr ∙ ap (λ (z : ℕ). rowLo g w N f (f + c) c z) hl)
@@ -71,14 +79,8 @@ pos-sub a b = ap₂ (λ (x y : ℤ). x -ℤ y) (sym (sub-pos a 0 a (omega arith)
 pub sub-fits : (a b : ℕ) → a ≤ 2 * tilt → b ≤ 2 * tilt → SFits w64 (subℕ a b)
 sub-fits a b h k = sub-ind a b (λ z. SFits w64 z) (λ m e. record { sfits = omega arith }) (λ m e. record { sfits = omega arith })
 
-pub unbias : (a b : ℕ) → a ≤ 2 * tilt → toZ w64 a -ℤ pos b ≡ subℕ a b
-unbias a b h = ap (λ (z : ℤ). z -ℤ pos b) (toZ-pos w64 a (omega arith)) ∙ pos-sub a b
-
-pub unbias-fits : (a b : ℕ) → a ≤ 2 * tilt → b ≤ 2 * tilt → SFits w64 (toZ w64 a -ℤ pos b)
-unbias-fits a b h k = subst (λ (z : ℤ). SFits w64 z) (sym (unbias a b h)) (sub-fits a b h k)
-
-pub unbiased : (a b : ℕ) → a ≤ 2 * tilt → b ≤ 2 * tilt → toZ w64 (ofZ w64 (toZ w64 a -ℤ pos b)) ≡ subℕ a b
-unbiased a b h k = toZ-ofZ w64 (toZ w64 a -ℤ pos b) (unbias-fits a b h k) ∙ unbias a b h
+pub unbias : (a b : ℕ) → a ≤ 2 * tilt → b ≤ 2 * tilt → toZ w64 a -ℤ toZ w64 b ≡ subℕ a b
+unbias a b h k = ap₂ (λ (x y : ℤ). x -ℤ y) (toZ-pos w64 a (omega arith)) (toZ-pos w64 b (omega arith)) ∙ pos-sub a b
 
 pub off-step : (g : ℕ → ℕ) (w N p f j a b x r : ℕ) → a ≡ off g w N p f j → b ≡ g (f + j) → x ≡ N * j + b - (w + p * j) → r ≡ max a x → r ≡ off g w N p f (j + 1)
 unfolding off

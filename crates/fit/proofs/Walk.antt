@@ -1,13 +1,15 @@
--- The code's walks along a chain: `ask` from its head, `keep` from its tail, and what `add` leaves.
-use mathlib.Core.Path.{_≡_, refl, _∙_}
+-- The code's walks along a chain: `ask` from its head, `keep` from its tail, what `add` leaves, and how `pair` starts it.
+use mathlib.Core.Path.{_≡_, refl, sym, ap, _∙_}
 use mathlib.Core.List.{List}
 use Prim.Native.Nat.{ℕ, _+_, _*_, _-_, _≤_, _<_, max}
 use native.Mathlib.Omega.{arith}
-use lib.ListN.{getD, set, length}
-use Rattle.fit.specs.Rates.{low, rowLo}
-use Rattle.fit.specs.Chains.{Order, Covers, Chain, leftAt, Asked, Kept, Keeping, Added}
+use lib.ListN.{getD, set, length, length-set}
+use lib.Seq.{getD-set-same}
+use Rattle.fit.specs.Rates.{low, rowLo, lo}
+use Rattle.fit.specs.Chains.{Order, Covers, Chain, leftAt, Paired, Asked, Kept, Keeping, Added}
 use Rattle.fit.proofs.Pairs.{rowLo-acc, rowLo-at}
-use Rattle.fit.proofs.Hull.{low-is, covers-up, covers-skip, order-skip, order-part, best, nearly, nearly-drop, push}
+use Rattle.fit.proofs.Hull.{low-is, covers-up, covers-skip, order-skip, order-part, best, nearly, nearly-drop, push, chain-one}
+use Rattle.fit.proofs.Steps.{lo-none, lo-step}
 
 -- the rate p so far, with the chain from i on
 pub record Query (g : ℕ → ℕ) (N f w : ℕ) (x v q : List ℕ) (i z m l p : ℕ) : Type 0 where
@@ -79,3 +81,40 @@ module _ (N : ℕ) (x v q : List ℕ) (s z m a : ℕ) where
       → y < length x → y < length v → y < length q → x′ ≡ set x y m → v′ ≡ set v y a → q′ ≡ set q y p → Added N x v q s z m a x′ v′ q′ y
   keep-end i p y x′ v′ q′ k h u t d hx hv hq ex ev eq g f l bd ha c = let j = k g f l bd ha c in
       rw (ex, ev, eq) (push g N f x v q s i y m l a p d hx hv hq ha (j .rate) t (order-part g N f x v q s z i m h u (c .order)) (j .nearly))
+
+-- the first two samples: what `ask` and `add` would make of a chain of the first
+pub pair-is : (N : ℕ) (x v q : List ℕ) (a b s p r : ℕ) → 1 < length x → 1 < length v → 1 < length q → a + s < b → p ≡ b - a - 1 → r ≡ p - s
+    → Paired N (set (set x 0 0) 1 1) (set (set v 0 a) 1 b) (set q 1 p) a b s r
+pair-is N x v q a b s p r lx lv lq lt hp hr g f w bd hs ha hb = (
+  lo-step g w N f 1 0 r none (asked .0),
+  keep-end N x₀ v₀ q 0 0 1 b 0 p 1 (set x₀ 1 1) (set v₀ 1 b) (set q 1 p) (keep-start N x₀ v₀ q 0 0 1 b p (omega (arith, left (b - 1)))) (omega arith) (omega arith) (λ h. absurd (omega arith)) refl
+      (simp length-set lx) (simp length-set lv) lq refl refl refl g f r (λ i. omega (arith, bd i)) hb (asked .1),
+)
+  where
+    x₀ : List ℕ
+    x₀ = set x 0 0
+
+    v₀ : List ℕ
+    v₀ = set v 0 a
+
+    at-x : getD x₀ 0 0 ≡ 0
+    at-x = getD-set-same x 0 0 0 (omega arith)
+
+    at-v : getD v₀ 0 0 ≡ a
+    at-v = getD-set-same v 0 a 0 (omega arith)
+
+    left : (t : ℕ) → leftAt x₀ v₀ 0 1 t ≡ t - a
+    left t = rw (at-x, at-v) (omega arith)
+
+    turned : (a b s : ℕ) → b - a - 1 - s ≡ b - s - 1 - a
+    turned a b s = omega arith
+
+    above : (n : ℕ) → r ≡ n → r ≡ max 0 n
+    above n e = omega arith
+
+    none : 0 ≡ lo g w N f 1
+    none = lo-none g w N f
+
+    asked : (r ≡ rowLo g w N f (f + 1) 1 0) × Chain g N f x₀ v₀ q 0 0 1 r
+    asked = ask-end N x₀ v₀ q 0 0 1 b s 0 0 r (ask-start N x₀ v₀ q 0 0 1 b s 0 r (above (leftAt x₀ v₀ 0 1 (b - s - 1)) (hr ∙ ap (λ (n : ℕ). n - s) hp ∙ turned a b s ∙ sym (left (b - s - 1))))) (λ h. absurd (omega arith)) g f w bd hs hb
+        (chain-one g N f x₀ v₀ q at-x (at-v ∙ ha))

@@ -6,7 +6,7 @@ use mathlib.Core.List.{List}
 use mathlib.Core.Logic.{_↔_}
 use Prim.Native.Nat.{ℕ, _+_, _*_, _/_, _-_, _≤_, _<_}
 use lib.ListN.{getD, length}
-use Rattle.fit.specs.Rates.{low, rowLo}
+use Rattle.fit.specs.Rates.{low, rowLo, lo}
 
 -- what the samples at k and at j leave of the rates, with twice the tolerance v: p is one of them
 abbrev pub Leaves : (ℕ → ℕ) → ℕ → ℕ → ℕ → ℕ → ℕ → ℕ → Type 0
@@ -52,6 +52,10 @@ pub record Full (x v q : List ℕ) : Type 0 where
 -- the least rate that the sample m leaves with the one at i on the chain, where t is one below m's tilted value less twice the tolerance
 abbrev pub leftAt : List ℕ → List ℕ → ℕ → ℕ → ℕ → ℕ
 leftAt x v i m t = (t - getD v i 0) / (m - getD x i 0)
+
+-- the chain of the first two samples, whose tilted values are a and b, and the least rate r that they leave, with twice the tolerance s
+abbrev pub Paired : ℕ → List ℕ → List ℕ → List ℕ → ℕ → ℕ → ℕ → ℕ → Type 0
+Paired N x v q a b s r = (g : ℕ → ℕ) (f w : ℕ) → ((i : ℕ) → g i + 2 * w ≤ N) → s ≡ 2 * w → a ≡ (N + 1) * 0 + g (f + 0) → b ≡ (N + 1) * 1 + g (f + 1) → (r ≡ lo g w N f 2) × Chain g N f x v q 0 1 2 r
 
 -- what the search for the rate answers, of each run and tolerance that the chain is of
 abbrev pub Asked : ℕ → List ℕ → List ℕ → List ℕ → ℕ → ℕ → ℕ → ℕ → ℕ → ℕ → ℕ → ℕ → Type 0

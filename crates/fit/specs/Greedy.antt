@@ -1,4 +1,5 @@
--- Document 01, 'Track': "Each segment, in order, is the longest that fits from its start", over any test `fit start count` of a run of samples.
+-- For the code: "Each segment, in order, is the longest that fits from its start", over any test `fit start count` of a run of samples. That the runs so
+-- made are the fewest is proved in proofs/Greedy.antt, for any test that holds of one sample and of each part of a run of which it holds.
 use mathlib.Core.Bool.{Bool, cond}
 use mathlib.Core.List.{List, [], _∷_}
 use Prim.Native.Nat.{ℕ, zero, suc, _+_, _-_, _≤_, min}

@@ -4,7 +4,7 @@ ghost use mathlib.Core.Path.{_≡_};
 ghost use Prim.Native.Nat.{_+_, _-_, _/_, _<_, _≤_};
 ghost use lib.ListN.{getD};
 ghost use Rattle.fit.specs.Rates.{tilt};
-ghost use Rattle.fit.specs.Chains.{Safe, Full, leftAt, Asked, Keeping, Added};
+ghost use Rattle.fit.specs.Chains.{Safe, Full, leftAt, Paired, Asked, Keeping, Added};
 use super::samples::larger;
 
 // The least rate that the sample `next` leaves with the one at i on the chain; `top` is one below its tilted value less twice the tolerance.
@@ -15,6 +15,28 @@ fn left_at(x: &[u32; 1024], v: &[u64; 1024], i: usize, next: u32, top: u64) -> u
     let k = x[i];
     let y = v[i];
     (top - y) / ((next - k) as u64)
+}
+
+// Makes the chain of the first two samples, of which `start` and `next` are the tilted values, and answers the least rate that they leave.
+pub fn pair(
+    x: &mut [u32; 1024],
+    v: &mut [u64; 1024],
+    q: &mut [u64; 1024],
+    start: u64,
+    next: u64,
+    slack: u64,
+) -> u64
+    requires { ⌜ start + slack < next ⌝ }
+    requires { ⌜ Full (now x) (now v) (now q) ⌝ }
+    ensures { λ r. ⌜ Full (now (x .exit)) (now (v .exit)) (now (q .exit)) × Paired tilt (now (x .exit)) (now (v .exit)) (now (q .exit)) start next slack r ⌝ }
+{
+    let p = next - start - 1;
+    x[0] = 0;
+    x[1] = 1;
+    v[0] = start;
+    v[1] = next;
+    q[1] = p;
+    p - slack
 }
 
 // A place on a chain, and a rate found there.

@@ -6,7 +6,7 @@ ghost use lib.Dec.{T, eqb};
 ghost use lib.IntN.{subℕ};
 ghost use lib.ListN.{length};
 ghost use Rattle.fit.specs.Line.{Small};
-ghost use Rattle.fit.specs.Rates.{scaled, tilt, lift, lo, hi, off, fitOf, least, offsetOf, rateOf};
+ghost use Rattle.fit.specs.Rates.{scaled, tilt, lo, hi, off, fitOf, least, offsetOf, rateOf};
 use super::samples::above;
 use super::samples::larger;
 use super::samples::scaled_at;
@@ -46,19 +46,12 @@ fn offset_of(samples: &[i64], tolerance: u64, first: usize, count: usize, p: u64
     a
 }
 
-// An offset with the lift taken off, and a rate with the tilt taken off.
-fn signed_offset(a: u64) -> i64
-    requires { ⌜ a ≤ 2 * tilt ⌝ }
-    ensures { λ r. ⌜ r ≡ subℕ a lift ⌝ }
+// How far a is above b: an offset with the lift taken off, or a rate with the tilt taken off.
+fn signed(a: u64, b: u64) -> i64
+    requires { ⌜ (a ≤ 2 * tilt) × (b ≤ 2 * tilt) ⌝ }
+    ensures { λ r. ⌜ r ≡ subℕ a b ⌝ }
 {
-    (a as i64) - 8_519_745_536_000_000
-}
-
-fn signed_rate(p: u64) -> i64
-    requires { ⌜ p ≤ 2 * tilt ⌝ }
-    ensures { λ r. ⌜ r ≡ subℕ p tilt ⌝ }
-{
-    (p as i64) - 17_040_000_000_000_000
+    (a as i64) - (b as i64)
 }
 
 // The line of the `count` samples from `first`, which some line fits and whose least rate is l.
@@ -72,7 +65,7 @@ pub fn line_of(samples: &[i64], tolerance: u64, first: usize, count: usize, l: u
     let p = rate_of(count, l);
     let a = offset_of(samples, tolerance, first, count, p);
     Line {
-        offset: signed_offset(a),
-        rate: signed_rate(p),
+        offset: signed(a, 8_519_745_536_000_000),
+        rate: signed(p, 17_040_000_000_000_000),
     }
 }

@@ -8,6 +8,7 @@ ghost use Rattle.fit.specs.Rates.{fitOf, least};
 ghost use Rattle.fit.specs.Chains.{Full};
 use super::chain::add;
 use super::chain::ask;
+use super::chain::pair;
 use super::samples::scaled_at;
 
 // A run: its number of samples, and the least rate that they leave, tilted.
@@ -18,7 +19,7 @@ pub struct Run {
 
 // The longest run of at most `most` samples from `first` that some line fits: found by two chains, one of the samples and one of the samples
 // turned over, which the arrays are lent to hold. xa, va, qa hold the first, from i to j; xb, vb, qb the second, from k to n; l and h are the least rates of
-// both, and the run fits while their sum is at most twice the tilt.
+// both, and the run fits while their sum is at most twice the tilt. Two samples always fit.
 pub fn longest_run(
     samples: &[i64],
     tolerance: u64,
@@ -38,19 +39,26 @@ pub fn longest_run(
     ensures { λ r. ⌜ (r .count ≡ grow (fitOf (now (samples .entry)) tolerance) (most - 1) first 1) × (r .least ≡ least (now (samples .entry)) tolerance first (r .count)) ⌝ }
     ensures { λ _. ⌜ Full (now (xa .exit)) (now (va .exit)) (now (qa .exit)) × Full (now (xb .exit)) (now (vb .exit)) (now (qb .exit)) ⌝ }
 {
+    if most < 2 {
+        return Run { count: 1, least: 0 };
+    }
     let v = 2 * (65536 * tolerance);
     let g = scaled_at(samples, first);
-    xa[0] = 0;
-    va[0] = g;
-    xb[0] = 0;
-    vb[0] = 17_040_000_000_000_000 - v - g;
-    let mut c: usize = 1;
-    let mut l: u64 = 0;
-    let mut h: u64 = 0;
+    let e = scaled_at(samples, first + 1);
+    let mut l = pair(xa, va, qa, g, 17_040_000_000_000_001 + e, v);
+    let mut h = pair(
+        xb,
+        vb,
+        qb,
+        17_040_000_000_000_000 - v - g,
+        34_080_000_000_000_001 - v - e,
+        v,
+    );
+    let mut c: usize = 2;
     let mut i: usize = 0;
-    let mut j: usize = 0;
+    let mut j: usize = 1;
     let mut k: usize = 0;
-    let mut n: usize = 0;
+    let mut n: usize = 1;
     while c < most {
         let m = c as u32;
         let t = 17_040_000_000_000_001 * (c as u64);

@@ -16,7 +16,7 @@ use Rattle.whole.proofs.Quote.{⟨_⟩, #, _⊕_, _⊝_, _⊗_, bal, by≡, by�
 use Rattle.whole.proofs.Rounding.{R-mono, R-mul}
 use Rattle.fit.specs.Line.{sample, Fits, Small}
 use Rattle.fit.proofs.Tests.{lt-or, at-or}
-use Rattle.track.specs.Segments.{Segment, flat}
+use Rattle.track.specs.Segments.{Segment, Stands, flat}
 use Rattle.track.specs.Rule.{RuledFrom}
 use Rattle.track.specs.Made.{trackOf}
 use Rattle.track.specs.Answer.{inRange}
@@ -84,40 +84,39 @@ module _ (s : List ℤ) (t : ℕ) (small : Small s) (tol : t ≤ 1_000_000) wher
   rated x f p h z = ⊎-elim (λ l. rate-size (x .offset) (x .rate) f (x .count) h l)
       (λ e. subst (λ (r : ℤ). ∣ r ∣ ≤ 20_000_000_000_000_000) (sym (z (sym e))) (omega arith)) (at-or 1 (x .count) p)
 
-  segment-sound : (x : Segment) (f : ℕ) → x .first ≡ f → 1 ≤ x .count → x .count ≤ 1024 → f + x .count ≤ 4096
-      → Fits s t (x .offset) (x .rate) f (x .count) → (x .count ≡ 1 → x .rate ≡ pos 0) → segmentOk f (lentSeg x) ≡ true
+  segment-sound : length s ≤ 4096 → (x : Segment) (f : ℕ) → Stands s t f x → (x .count ≡ 1 → x .rate ≡ pos 0) → segmentOk f (lentSeg x) ≡ true
   unfolding segmentOk predictionsOk
-  segment-sound x f e p q w h z =
+  segment-sound few x f a z =
       and-both (placeOk f (lentSeg x) && lengthOk (lentSeg x) && rangeOk (lentSeg x)) (predictionsOk (lentSeg x))
       (and-both (placeOk f (lentSeg x) && lengthOk (lentSeg x)) (rangeOk (lentSeg x))
       (and-both (placeOk f (lentSeg x)) (lengthOk (lentSeg x)) place long)
       (and-both (leb ∣ x .offset ∣ 9_000_000_000_000_000) (leb ∣ x .rate ∣ 20_000_000_000_000_000)
-      (le-leb ∣ x .offset ∣ 9_000_000_000_000_000 (omega (arith, offset-size (x .offset) (x .rate) f (x .count) h p)))
-      (le-leb ∣ x .rate ∣ 20_000_000_000_000_000 (rated x f p h z))))
-      (each-of (x .count) (λ j. leb ∣ predicted (lentSeg x) (pos j) ∣ 131_000_000_000) (λ j l. prediction-size (x .offset) (x .rate) f (x .count) j h l))
+      (le-leb ∣ x .offset ∣ 9_000_000_000_000_000 (omega (arith, offset-size (x .offset) (x .rate) f (x .count) (a .fits) (a .some))))
+      (le-leb ∣ x .rate ∣ 20_000_000_000_000_000 (rated x f (a .some) (a .fits) z))))
+      (each-of (x .count) (λ j. leb ∣ predicted (lentSeg x) (pos j) ∣ 131_000_000_000) (λ j l. prediction-size (x .offset) (x .rate) f (x .count) j (a .fits) l))
     where
       place : placeOk f (lentSeg x) ≡ true
       place = and-both (leb f (x .first) && leb (x .first) f) (leb (f + x .count) 4096)
-          (and-both (leb f (x .first)) (leb (x .first) f) (le-leb f (x .first) (omega arith)) (le-leb (x .first) f (omega arith))) (le-leb (f + x .count) 4096 w)
+          (and-both (leb f (x .first)) (leb (x .first) f) (le-leb f (x .first) (omega (arith, a .first))) (le-leb (x .first) f (omega (arith, a .first)))) (le-leb (f + x .count) 4096 (omega (arith, a .within)))
 
       long : lengthOk (lentSeg x) ≡ true
-      long = and-both (leb 1 (x .count)) (leb (x .count) 1024) (le-leb 1 (x .count) p) (le-leb (x .count) 1024 q)
+      long = and-both (leb 1 (x .count)) (leb (x .count) 1024) (le-leb 1 (x .count) (a .some)) (le-leb (x .count) 1024 (a .cap))
 
   -- by the rule, from sample f on
   ruled-sound : (few : length s ≤ 4096) {f : ℕ} {xs : List Segment} → RuledFrom s t f xs → soundFrom f (lentOf (flat xs)) ≡ true
   unfolding flat lentOf soundFrom
   ruled-sound few (RuledFrom.end e) = refl
-  ruled-sound few (RuledFrom.seg {f} {x} {xs} a b c d g l r z o w) =
-      and-both (segmentOk f (lentSeg x)) (soundFrom (f + x .count) (lentOf (flat xs))) (segment-sound x f a b c (omega arith) g z) (ruled-sound few w)
+  ruled-sound few (RuledFrom.seg {f} {x} {xs} a b r) =
+      and-both (segmentOk f (lentSeg x)) (soundFrom (f + x .count) (lentOf (flat xs))) (segment-sound few x f a (b .alone)) (ruled-sound few r)
 
   ruled-near : (few : length s ≤ 4096) {f : ℕ} {xs : List Segment} → RuledFrom s t f xs → (k : ℕ) → f ≤ k → k < length s
       → (answerAt (lentOf (flat xs)) k .refusal ≡ pos 0) × (∣ answerAt (lentOf (flat xs)) k .value -ℤ sample s k ∣ ≤ t)
   unfolding flat lentOf
   ruled-near few (RuledFrom.end e) k h m = absurd (omega arith)
-  ruled-near few (RuledFrom.seg {f} {x} {xs} a b c d g l r z o w) k h m = pick (ruled-near few w k)
+  ruled-near few (RuledFrom.seg {f} {x} {xs} a b r) k h m = pick (ruled-near few r k)
     where
       ok : Good f (lentSeg x)
-      ok = good f (lentSeg x) (segment-sound x f a b c (omega arith) g z)
+      ok = good f (lentSeg x) (segment-sound few x f a (b .alone))
 
       place : (f k : ℕ) → f ≤ k → f + (k - f) ≡ k
       place f k h = omega arith
@@ -128,7 +127,7 @@ module _ (s : List ℤ) (t : ℕ) (small : Small s) (tol : t ≤ 1_000_000) wher
           (λ i. rw (covered f (lentSeg x) ok (lentOf (flat xs)) k h i) (
             refl,
             subst (λ (n : ℕ). ∣ predicted (lentSeg x) (pos (k - f)) -ℤ sample s n ∣ ≤ t) (place f k h)
-                (prediction-near (x .offset) (x .rate) f (x .count) (k - f) g (omega arith)),
+                (prediction-near (x .offset) (x .rate) f (x .count) (k - f) (a .fits) (omega arith)),
           ))
           (λ i. rw (passed f (lentSeg x) ok (lentOf (flat xs)) k h i) (later i m))
           (lt-or k (f + x .count))

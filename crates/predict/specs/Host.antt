@@ -11,13 +11,14 @@ use Rattle.predict.specs.declared.Record.{Record}
 use Rattle.predict.specs.declared.Host.{Host}
 use Rattle.predict.specs.Lent.{predictOutcome}
 
--- made once, exactly, and divided once
+-- the record of a prediction of so many ps: each number is made a double, exactly, and divided once
 unfoldable pub recordOf : ℤ → Record
 recordOf ps = record {
   seconds = Ieee.div binary64 (ofInt binary64 ps) (ofInt binary64 (pos 1_000_000_000_000));
   cycles = Ieee.div binary64 (ofInt binary64 (ps *ℤ pos 32)) (ofInt binary64 (pos 1_000_000));
 }
 
+-- the record of a refused call
 abbrev pub zeros : Record
 zeros = record { seconds = ofInt binary64 (pos 0); cycles = ofInt binary64 (pos 0) }
 

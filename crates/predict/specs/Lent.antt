@@ -50,16 +50,18 @@ predictionsOk x = each (P (x .count)) (λ j. leb ∣ predicted x (pos j) ∣ 131
 unfoldable pub segmentOk : ℕ → Lent → Bool
 segmentOk at x = placeOk at x && lengthOk x && rangeOk x && predictionsOk x
 
--- no segment, from the one that `at` samples stand before, is malformed
+-- no segment is malformed, from the one that `at` samples stand before
 unfoldable pub soundFrom : ℕ → List Lent → Bool
 soundFrom at [] = true
 soundFrom at (x ∷ xs) = segmentOk at x && soundFrom (at + P (x .count)) xs
 
 -- ---- the answers
 
+-- "A refused call returns its number and zeros"
 abbrev pub refused : Number
 refused = record { refusal = pos 9; value = pos 0 }
 
+-- the segment covers sample k
 abbrev pub covers : Lent → ℕ → Bool
 covers x k = leZ (x .first) (pos k) && ltZ (pos k) (x .first +ℤ x .count)
 
@@ -73,6 +75,6 @@ unfoldable pub answerAt : List Lent → ℕ → Number
 answerAt [] k = refused
 answerAt (x ∷ xs) k = let r = answerAt xs k in cond (covers x k) (record { refusal = pos 0; value = predicted x (pos k -ℤ x .first) }) r
 
--- what the call `predict` answers
+-- what the call `predict` answers: every whole segment is judged, also those after the one that covers sample k
 unfoldable pub predictOutcome : List ℤ → ℕ → Number
 predictOutcome numbers k = cond (soundFrom 0 (lentOf numbers)) (answerAt (lentOf numbers) k) refused

@@ -1,8 +1,7 @@
 -- THE THEOREMS of demand 3: the rule allows exactly one list, which is `trackOf`; it is a track of the samples; and no track of the samples has fewer segments.
 use mathlib.Core.Path.{_≡_, refl, sym, ap, ap₂, subst, _∙_}
-use mathlib.Core.Bool.{Bool, true, false, not}
 use mathlib.Core.List.{List, [], _∷_, map}
-use mathlib.Core.Logic.{_↔_}
+use mathlib.Core.Logic.{_↔_, ⊎-elim}
 use Prim.Native.Nat.{ℕ, zero, suc, _+_, _*_, _≤_, _<_}
 use native.Mathlib.Omega.{arith}
 use lib.Dec.{T, ltb, ltb→lt, nltb→le}
@@ -12,17 +11,17 @@ use lib.Signed.{_≤ℤ_}
 use Rattle.fit.specs.Line.{Fits, Small}
 use Rattle.fit.specs.Greedy.{longest, counts, Cover, done, step}
 use Rattle.fit.specs.Rates.{fitOf, rateOf}
-use Rattle.fit.proofs.Tests.{by-test}
+use Rattle.fit.proofs.Tests.{by-test, at-or}
 use Rattle.fit.proofs.Diff.{≤ℤ-antisym}
 use Rattle.fit.proofs.Greedy.{longest-pos, longest-fits, longest-cap, longest-within, longest-most, fewest, counts-half}
 use Rattle.fit.proofs.Lines.{fits-one, fits-two, fits-some, fitOf-complete, line-fits, rate-least, rate-alone, offset-least}
-use Rattle.track.specs.Segments.{Segment, TrackFrom, IsTrack}
+use Rattle.track.specs.Segments.{Segment, Stands, TrackFrom, IsTrack}
 use Rattle.track.specs.Rule.{RuledFrom, Ruled}
 use Rattle.track.specs.Made.{segOf, segsOf, trackOf}
 
 pub ruled-track : {s : List ℤ} {t f : ℕ} {xs : List Segment} → RuledFrom s t f xs → TrackFrom s t f xs
 ruled-track (RuledFrom.end e) = TrackFrom.end e
-ruled-track (RuledFrom.seg a b c d e f g h i r) = TrackFrom.seg a b c d e (ruled-track r)
+ruled-track (RuledFrom.seg a b r) = TrackFrom.seg a (ruled-track r)
 
 segsOf-length : (s : List ℤ) (t f : ℕ) (cs : List ℕ) → length (segsOf s t f cs) ≡ length cs
 unfolding segsOf
@@ -36,16 +35,24 @@ module _ (s : List ℤ) (t : ℕ) (small : Small s) (tol : t ≤ 1_000_000) wher
   part : (f c k d : ℕ) → 1 ≤ d → k + d ≤ c → T (fitOf s t f c) → T (fitOf s t (f + k) d)
   part = fits-some s t small tol
 
+  stands-fit : (f : ℕ) (x : Segment) → Stands s t f x → T (fitOf s t f (x .count))
+  stands-fit f x a = fitOf-complete s t small tol (x .offset) (x .rate) f (x .count) (a .some) (a .fits)
+
   cover : {f : ℕ} {xs : List Segment} → TrackFrom s t f xs → Cover (fitOf s t) 1024 (length s) f (map (λ (x : Segment). x .count) xs)
   cover (TrackFrom.end e) = done e
-  cover (TrackFrom.seg {f} {x} {xs} a b c d e r) = step b c d (fitOf-complete s t small tol (x .offset) (x .rate) f (x .count) b e) (cover r)
+  cover (TrackFrom.seg {f} {x} {xs} a r) = step (a .some) (a .cap) (a .within) (stands-fit f x a) (cover r)
 
-  head : (f c : ℕ) (xs : List Segment) → 1 ≤ c → c ≤ 1024 → f + c ≤ length s → T (fitOf s t f c)
-      → ((A r : ℤ) (d : ℕ) → 1 ≤ d → d ≤ 1024 → f + d ≤ length s → Fits s t A r f d → d ≤ c)
+  head : (f c : ℕ) (xs : List Segment) → 1 ≤ c → c ≤ 1024 → f + c ≤ length s → T (fitOf s t f c) → ((y : Segment) → Stands s t f y → y .count ≤ c)
       → RuledFrom s t (f + c) xs → RuledFrom s t f (segOf s t f c ∷ xs)
   unfolding segOf
-  head f c xs p q w k m r = RuledFrom.seg {x = segOf s t f c} refl p q w (line-fits s t small tol f c k) m (λ A r. rate-least s t small tol A r f c)
-      (λ e. subst (λ (z : ℕ). rateOf s t f z ≡ pos 0) (sym e) (rate-alone s t small tol f)) (λ A. offset-least s t small tol A f c p) r
+  head f c xs p q w k m r = RuledFrom.seg {x = segOf s t f c}
+      (record { first = refl; some = p; cap = q; within = w; fits = line-fits s t small tol f c k })
+      (record {
+        longest = m;
+        least-rate = λ h A r. rate-least s t small tol A r f c h;
+        alone = λ e. subst (λ (z : ℕ). rateOf s t f z ≡ pos 0) (sym e) (rate-alone s t small tol f);
+        least-offset = λ A. offset-least s t small tol A f c p;
+      }) r
 
   ruled : (k f : ℕ) → f ≤ length s → length s ≤ f + k → RuledFrom s t f (segsOf s t f (counts (fitOf s t) 1024 (length s) k f))
   unfolding counts segsOf
@@ -57,7 +64,7 @@ module _ (s : List ℤ) (t : ℕ) (small : Small s) (tol : t ≤ 1_000_000) wher
       head f c (segsOf s t (f + c) (counts (fitOf s t) 1024 (length s) k (f + c))) c-pos
       (longest-cap (fitOf s t) 1024 (length s) (omega arith) one part f l) v
       (longest-fits (fitOf s t) 1024 (length s) (omega arith) one part f)
-      (λ A r d x y z q. longest-most (fitOf s t) 1024 (length s) (omega arith) one part f d x y z (fitOf-complete s t small tol A r f d x q))
+      (λ y a. longest-most (fitOf s t) 1024 (length s) (omega arith) one part f (y .count) (a .some) (a .cap) (a .within) (stands-fit f y a))
       (ruled k (f + c) v (omega (arith, c-pos))))
       (λ u. let l : length s ≤ f = nltb→le f (length s) u in RuledFrom.end {f = f} (omega arith))
     where
@@ -101,33 +108,29 @@ same-seg x y p q u v = λ i. record { first = p i; count = q i; offset = u i; ra
 
 pub ruled-unique : {s : List ℤ} {t f : ℕ} {xs ys : List Segment} → RuledFrom s t f xs → RuledFrom s t f ys → xs ≡ ys
 ruled-unique (RuledFrom.end e) (RuledFrom.end e′) = refl
-ruled-unique (RuledFrom.end e) (RuledFrom.seg {x} a b c d g l r z o w) = absurd (omega arith)
-ruled-unique (RuledFrom.seg {x} a b c d g l r z o w) (RuledFrom.end e′) = absurd (omega arith)
-ruled-unique {s} {t} {f} (RuledFrom.seg {x} {xs} a b c d g l r z o w) (RuledFrom.seg {x = y} {xs = ys} a′ b′ c′ d′ g′ l′ r′ z′ o′ w′) =
-    ap₂ (λ (h : Segment) (tl : List Segment). h ∷ tl) (same-seg x y (a ∙ sym a′) n u v)
-    (ruled-unique w (subst (λ (k : ℕ). RuledFrom s t (f + k) ys) (sym n) w′))
+ruled-unique (RuledFrom.end e) (RuledFrom.seg {x} a b r) = absurd (omega (arith, a .some, a .within))
+ruled-unique (RuledFrom.seg {x} a b r) (RuledFrom.end e′) = absurd (omega (arith, a .some, a .within))
+ruled-unique {s} {t} {f} (RuledFrom.seg {x} {xs} a b r) (RuledFrom.seg {x = y} {xs = ys} a′ b′ r′) =
+    ap₂ (λ (h : Segment) (tl : List Segment). h ∷ tl) (same-seg x y (a .first ∙ sym (a′ .first)) n u v)
+    (ruled-unique r (subst (λ (k : ℕ). RuledFrom s t (f + k) ys) (sym n) r′))
   where
     n : x .count ≡ y .count
-    n = omega (arith, l (y .offset) (y .rate) (y .count) b′ c′ d′ g′, l′ (x .offset) (x .rate) (x .count) b c d g)
+    n = omega (arith, b .longest y a′, b′ .longest x a)
 
     gx : Fits s t (x .offset) (x .rate) f (y .count)
-    gx = subst (λ (k : ℕ). Fits s t (x .offset) (x .rate) f k) n g
+    gx = subst (λ (k : ℕ). Fits s t (x .offset) (x .rate) f k) n (a .fits)
 
     gy : Fits s t (y .offset) (y .rate) f (x .count)
-    gy = subst (λ (k : ℕ). Fits s t (y .offset) (y .rate) f k) (sym n) g′
-
-    v-of : (q : Bool) → q ≡ ltb 1 (x .count) → x .rate ≡ y .rate
-    v-of true e = let h : 1 < x .count = ltb→lt 1 (x .count) (subst T e tt) in
-        ≤ℤ-antisym (x .rate) (y .rate) (r (y .offset) (y .rate) h gy) (r′ (x .offset) (x .rate) (omega (arith, n)) gx)
-    v-of false e = let h : x .count ≤ 1 = nltb→le 1 (x .count) (subst (λ (q : Bool). T (not q)) e tt) in
-        z (omega arith) ∙ sym (z′ (omega (arith, n)))
+    gy = subst (λ (k : ℕ). Fits s t (y .offset) (y .rate) f k) (sym n) (a′ .fits)
 
     v : x .rate ≡ y .rate
-    v = v-of (ltb 1 (x .count)) refl
+    v = ⊎-elim
+        (λ h. ≤ℤ-antisym (x .rate) (y .rate) (b .least-rate h (y .offset) (y .rate) gy) (b′ .least-rate (omega (arith, n)) (x .offset) (x .rate) gx))
+        (λ h. b .alone (sym h) ∙ sym (b′ .alone (omega (arith, n)))) (at-or 1 (x .count) (a .some))
 
     u : x .offset ≡ y .offset
-    u = ≤ℤ-antisym (x .offset) (y .offset) (o (y .offset) (subst (λ (q : ℤ). Fits s t (y .offset) q f (x .count)) (sym v) gy))
-        (o′ (x .offset) (subst (λ (q : ℤ). Fits s t (x .offset) q f (y .count)) v gx))
+    u = ≤ℤ-antisym (x .offset) (y .offset) (b .least-offset (y .offset) (subst (λ (q : ℤ). Fits s t (y .offset) q f (x .count)) (sym v) gy))
+        (b′ .least-offset (x .offset) (subst (λ (q : ℤ). Fits s t (x .offset) q f (y .count)) v gx))
 
 -- the rule allows exactly one list of segments, and it is `trackOf`
 pub rule-exactly : (s : List ℤ) (t : ℕ) → Small s → t ≤ 1_000_000 → (xs : List Segment) → Ruled s t xs ↔ (xs ≡ trackOf s t)

@@ -17,7 +17,7 @@ unfoldable pub each : ℕ → (ℕ → Bool) → Bool
 each zero p = true
 each (suc n) p = each n p && p n
 
--- refusal 2: "1 to 4,096" samples, "each within ±130,000,000,000", and the tolerance 0 to 1,000,000
+-- what refusal 2 leaves: "samples 1-4,096", "each within ±130,000,000,000", and "tolerance 0-1,000,000"
 abbrev pub smallAt : List ℤ → ℕ → Bool
 smallAt s i = leb ∣ sample s i ∣ 130_000_000_000
 
@@ -37,7 +37,8 @@ refused n room = record { answer = record { refusal = pos n; value = pos 0 }; ro
 abbrev pub written : List Segment → List ℤ → Outcome
 written xs room = record { answer = record { refusal = pos 0; value = pos (length xs) }; room = flat xs ++ drop (4 * length xs) room }
 
--- "Room is counted in whole segments"
+-- "The lowest number that applies is given." "Room is counted in whole segments"; that no other track of the samples fits a room that is too short for this one
+-- is proved in proofs/Answers.antt.
 unfoldable pub outcome : List ℤ → ℤ → List ℤ → Outcome
 outcome s t room =
     let xs = trackOf s (P t) in

@@ -1,4 +1,4 @@
--- The one list of segments that the rule allows, as the code makes it, run by run. That it is the rule's is proved, so no reader need believe this file.
+-- For the code: the one list of segments that the rule allows, made run by run. proofs/Theorems.antt shows that it is the rule's, so no reader need believe this file.
 use Prim.Native.Nat.{ℕ, zero, suc, _+_, _<_}
 use mathlib.Core.Path.{_≡_}
 use mathlib.Core.List.{List, [], _∷_}

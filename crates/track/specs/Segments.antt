@@ -13,18 +13,19 @@ pub record Segment : Type 0 where
   pub offset : ℤ
   pub rate : ℤ
 
+-- a segment that may stand at sample f in a track of the samples s with the tolerance t: it starts there, has "1 to 1,024" samples, all of them given, and fits
+pub record Stands (s : List ℤ) (t f : ℕ) (x : Segment) : Type 0 where
+  pub first : x .first ≡ f
+  pub some : 1 ≤ x .count
+  pub cap : x .count ≤ 1024
+  pub within : f + x .count ≤ length s
+  pub fits : Fits s t (x .offset) (x .rate) f (x .count)
+
 -- "A track of given samples starts at sample 0, its segments join without gap or overlap, and its last segment ends at the last sample":
--- the part of it from sample f on, with the tolerance t
+-- the part of it from sample f on
 pub data TrackFrom (s : List ℤ) (t : ℕ) : ℕ → List Segment → Type 0 where
   end : {f : ℕ} → f ≡ length s → TrackFrom s t f []
-  seg : {f : ℕ} {x : Segment} {xs : List Segment}
-      → x .first ≡ f
-      → 1 ≤ x .count
-      → x .count ≤ 1024
-      → f + x .count ≤ length s
-      → Fits s t (x .offset) (x .rate) f (x .count)
-      → TrackFrom s t (f + x .count) xs
-      → TrackFrom s t f (x ∷ xs)
+  seg : {f : ℕ} {x : Segment} {xs : List Segment} → Stands s t f x → TrackFrom s t (f + x .count) xs → TrackFrom s t f (x ∷ xs)
 
 abbrev pub IsTrack : List ℤ → ℕ → List Segment → Type 0
 IsTrack s t xs = TrackFrom s t 0 xs

@@ -29,15 +29,16 @@ pub fn track(samples: &[i64], tolerance: i64, room: &mut [i64]) -> Number
     let t = tolerance as u64;
     let m = count::count_segments(samples, t, &mut counts, &mut rates);
     let places = room.len() / 4;
-    if places < m {
+    let many = if places < m { 0 } else { m };
+    write::write_segments(samples, t, &counts, &rates, many, room);
+    if many < m {
         return Number {
             refusal: 8,
             value: 0,
         };
     }
-    write::write_segments(samples, t, &counts, &rates, m, room);
     Number {
         refusal: 0,
-        value: m as i64,
+        value: many as i64,
     }
 }

@@ -2,7 +2,7 @@
 ghost use mathlib.Core.Path.{_≡_};
 ghost use mathlib.Core.List.{_++_};
 ghost use Prim.Native.Nat.{_+_, _*_, _<_, _≤_};
-ghost use lib.ListN.{length, drop, set};
+ghost use lib.ListN.{length, take, drop, set};
 ghost use Rattle.fit.specs.Line.{Small};
 ghost use Rattle.track.specs.Segments.{flat};
 ghost use Rattle.track.specs.Made.{trackOf, Stored};
@@ -18,7 +18,7 @@ fn put(room: &mut [i64], at: usize, a: i64, b: i64, c: i64, d: i64)
     room[at + 3] = d;
 }
 
-// Writes the numbers of the track, whose runs are noted in `counts` and `rates`, to the start of the room, which has place for its `many` segments.
+// Writes the first `many` segments of the track, whose runs are noted in `counts` and `rates`, to the start of the room, which has place for them.
 pub fn write_segments(
     samples: &[i64],
     tolerance: u64,
@@ -29,9 +29,9 @@ pub fn write_segments(
 )
     requires { ⌜ Small (now samples) × (length (now samples) ≤ 4096) ⌝ }
     requires { ⌜ tolerance ≤ 1_000_000 ⌝ }
-    requires { ⌜ (many ≡ length (trackOf (now samples) tolerance)) × Stored (now samples) tolerance (now counts) (now rates) many ⌝ }
+    requires { ⌜ (many ≤ length (trackOf (now samples) tolerance)) × Stored (now samples) tolerance (now counts) (now rates) many ⌝ }
     requires { do ⌜ 4 * many ≤ (← ⟦room.len()⟧) ⌝ }
-    ensures { λ _. ⌜ now (room .exit) ≡ flat (trackOf (now (samples .entry)) tolerance) ++ drop (4 * many) (now (room .entry)) ⌝ }
+    ensures { λ _. ⌜ now (room .exit) ≡ take (4 * many) (flat (trackOf (now (samples .entry)) tolerance)) ++ drop (4 * many) (now (room .entry)) ⌝ }
 {
     let mut f: usize = 0;
     let mut m: usize = 0;

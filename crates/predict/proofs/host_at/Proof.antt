@@ -1,10 +1,10 @@
 -- `predict::host_at` meets its contract.
-use mathlib.Core.Path.{_≡_, refl, sym, ap, subst, _∙_}
+use mathlib.Core.Path.{_≡_, sym, ap, subst, _∙_}
 use mathlib.Core.Bool.{Bool, true, false, cond}
 use Prim.Native.Nat.{_≤_}
 use native.Mathlib.Omega.{arith}
 use borrow.Author.Needs.{needs}
-use lib.Ieee.{binary64, ofBits, ofInt}
+use lib.Ieee.{ofBits, ofInt}
 use lib.IntN.{ℤ, pos}
 use lib.Signed.{leZ}
 use mir.Syntax.{w64}
@@ -52,16 +52,12 @@ returns c = let d = c .before .before in let p = d .before .before in let x = p 
     c .record-of .ensures ∙ ap recordOf (value-is p) ∙ picked (leZ (n .refusal) (pos 0)) (recordOf (n .value)) zeros t in
     λ i. record { refusal = number-is p i; «record» = r i }
 
-nought : ofBits binary64 0 ≡ ofInt binary64 (pos 0)
-unfolding ofBits ofInt
-nought = refl
-
 returns-2 : tie.Need-returns-2
-unfolding hostOutcome
+unfolding hostOutcome ofBits ofInt
 returns-2 c = let p = c .before .before in let x = p .before .args in let n = predictOutcome (x .track .now) (x .sample) in
     let t : leZ (n .refusal) (pos 0) ≡ false = ap (λ (z : ℤ). leZ z (pos 0)) (sym (number-is p)) ∙ c .if1 .left in
     let r : zeros ≡ cond (leZ (n .refusal) (pos 0)) (recordOf (n .value)) zeros = other (leZ (n .refusal) (pos 0)) (recordOf (n .value)) zeros t in
-    (λ i. record { refusal = number-is p i; «record» = record { seconds = nought i; cycles = nought i } }) ∙ (λ i. record { refusal = n .refusal; «record» = r i })
+    λ i. record { refusal = number-is p i; «record» = r i }
 
 pub host-at-spec : {M : Type 1} → statement M
 host-at-spec = tie.close (tie.spec predict-requires record-of-requires returns returns-2)

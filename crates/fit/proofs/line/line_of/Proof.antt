@@ -50,17 +50,17 @@ tilted-small : (c : tie.After-rate-of) → let x = c .before .args in tilted (x 
 tilted-small c = let x = c .before .args in let q = c .before .pre in
     tilted-top (x .samples .now) (x .tolerance) (q .1 .0) (q .1 .1 .0) (x .first) (x .count) (q .1 .1 .1 .0)
 
-signed-offset-requires : tie.Need-signed-offset-requires
-signed-offset-requires c κs = subst (λ (z : ℕ). z ≤ 2 * tilt) (sym (offs c)) (lifted-small (c .before))
+signed-requires : tie.Need-signed-requires
+signed-requires c κs = (subst (λ (z : ℕ). z ≤ 2 * tilt) (sym (offs c)) (lifted-small (c .before)), omega arith)
 
-signed-rate-requires : tie.Need-signed-rate-requires
-signed-rate-requires c κs = let k = c .before .before in subst (λ (z : ℕ). z ≤ 2 * tilt) (sym (rated k)) (tilted-small k)
+signed-requires-2 : tie.Need-signed-requires-2
+signed-requires-2 c κs = let k = c .before .before in (subst (λ (z : ℕ). z ≤ 2 * tilt) (sym (rated k)) (tilted-small k), omega arith)
 
 returns : tie.Need-returns
 unfolding offsetOf rateOf
 returns c = let o = c .before .before in let k = o .before in (
-  back-sub (c .before .signed-offset .result) (lifted _ _ _ _) lift (c .before .signed-offset .ensures ∙ ap (λ (z : ℕ). subℕ z lift) (offs o)) (lifted-small k) (omega arith),
-  back-sub (c .signed-rate .result) (tilted _ _ _ _) tilt (c .signed-rate .ensures ∙ ap (λ (z : ℕ). subℕ z tilt) (rated k)) (tilted-small k) (omega arith),
+  back-sub (c .before .signed .result) (lifted _ _ _ _) lift (c .before .signed .ensures ∙ ap (λ (z : ℕ). subℕ z lift) (offs o)) (lifted-small k) (omega arith),
+  back-sub (c .signed2 .result) (tilted _ _ _ _) tilt (c .signed2 .ensures ∙ ap (λ (z : ℕ). subℕ z tilt) (rated k)) (tilted-small k) (omega arith),
 )
 
 pub line-of-spec : {M : Type 1} → statement M
@@ -69,6 +69,6 @@ line-of-spec =
     (tie.spec
     rate-of-requires
     offset-of-requires
-    signed-offset-requires
-    signed-rate-requires
+    signed-requires
+    signed-requires-2
     returns)

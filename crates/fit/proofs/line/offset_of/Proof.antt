@@ -72,7 +72,7 @@ loop-again c =
     let q = c .before .before in
     let x = q .before .before .before .args in (
       omega arith,
-      off-step (scaled (x .samples .now)) (65536 * x .tolerance) tilt (x .p) (x .first) (q .before .before .loop .j) _ _ _ _ (q .before .before .loop .inv .1) (q .scaled-at .ensures) (c .before .above .ensures) (c .larger .ensures),
+      off-step (scaled (x .samples .now)) (65536 * x .tolerance) tilt (x .p) (x .first) (q .before .before .loop .j) _ _ (c .before .above .result) _ (q .before .before .loop .inv .1) (q .scaled-at .ensures) (omega (arith, c .before .above .ensures)) (c .larger .ensures),
     )
 
 returns : tie.Need-returns Inv-loop μ-loop

@@ -1,14 +1,12 @@
 -- `fit::scaled_at` meets its contract.
-use mathlib.Core.Path.{_≡_, sym, ap, subst, _∙_}
-use Prim.Native.Nat.{ℕ, _≤_, _*_}
+use mathlib.Core.Path.{_≡_, ap}
+use Prim.Native.Nat.{ℕ, _*_}
 use native.Mathlib.Omega.{arith}
 use borrow.Author.Needs.{needs}
-use lib.IntN.{ℤ}
-use Rattle.whole.specs.Whole.{∣_∣}
 use Rattle.fit.specs.Line.{sample}
 use Rattle.fit.specs.Rates.{bias, scaled}
 use Rattle.fit.proofs.Lines.{bias-high}
-use Rattle.fit.proofs.Steps.{small-back}
+use Rattle.fit.proofs.Steps.{small-back, small-bits}
 use Rattle.fit.proofs.samples.scaled_at.Statement.{statement}
 use Rattle.fit.proofs.samples.scaled_at.Tie as tie
 
@@ -19,12 +17,11 @@ shared-slice-copy-out-z : tie.Need-shared-slice-copy-out-z
 shared-slice-copy-out-z c = search needs
 
 biased-requires : tie.Need-biased-requires
-biased-requires c κs =
-    let h = c .before .pre .1 (c .before .args .i) in
-    subst (λ (z : ℤ). ∣ z ∣ ≤ 130_000_000_000) (sym (small-back (sample (c .before .args .samples .now) (c .before .args .i)) h)) h
+biased-requires c κs = let x = c .before .args in omega (arith, small-bits (sample (x .samples .now) (x .i)) (c .before .pre .1 (x .i)))
 
 is : (c : tie.After-biased) → c .biased .result ≡ bias (sample (c .before .before .args .samples .now) (c .before .before .args .i))
-is c = c .biased .ensures ∙ ap bias (small-back (sample (c .before .before .args .samples .now) (c .before .before .args .i)) (c .before .before .pre .1 (c .before .before .args .i)))
+is c = let x = c .before .before .args in let z = sample (x .samples .now) (x .i) in
+    omega (arith, c .biased .ensures, ap bias (small-back z (c .before .before .pre .1 (x .i))))
 
 mul-result : tie.Need-mul-result
 mul-result c = omega (arith, is c, bias-high (sample (c .before .before .args .samples .now) (c .before .before .args .i)) (c .before .before .pre .1 (c .before .before .args .i)))

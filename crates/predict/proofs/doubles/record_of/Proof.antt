@@ -1,5 +1,5 @@
 -- `predict::record_of` meets its contract: both products are below 2^53, so each is made a double exactly.
-use mathlib.Core.Path.{_≡_, refl, sym, subst}
+use mathlib.Core.Path.{_≡_, sym, subst}
 use Prim.Native.Nat.{_*_, _^_, _<_, _≤_}
 use native.Mathlib.Omega.{arith}
 use lib.Dec.{T, le→leb, lt→ltb}
@@ -27,14 +27,6 @@ cycles-is : (c : tie.Start) → toZ w64 (ofZ w64 (toZ w64 (ofZ w64 (c .args .ps)
 unfolding cycles
 cycles-is c = is (cycles c) tt
 
-tera : ofBits binary64 4786511204640096256 ≡ ofInt binary64 (pos 1_000_000_000_000)
-unfolding ofBits ofInt
-tera = refl
-
-mega : ofBits binary64 4696837146684686336 ≡ ofInt binary64 (pos 1_000_000)
-unfolding ofBits ofInt
-mega = refl
-
 int-to-float-t2 : tie.Need-int-to-float-t2
 int-to-float-t2 c = let s = c .before in subst (λ (y : ℤ). T (inFloat binary64 y)) (sym (back (s .fits .ps))) (exact (s .args .ps) (omega (arith, s .pre)))
 
@@ -47,9 +39,12 @@ int-to-float-t5 c = let s = c .before .before in
     subst (λ (y : ℤ). T (inFloat binary64 y)) (sym (cycles-is s)) (exact (s .args .ps *ℤ pos 32) (omega (arith, abs-mul≤ (s .args .ps) (pos 32) 131_000_000_000 32 (s .pre) (omega arith))))
 
 returns : tie.Need-returns
-unfolding recordOf
+unfolding recordOf ofBits ofInt
 returns c = let s = c .before .before in
-    λ i. record { seconds = Ieee.div binary64 (ofInt binary64 (back (s .fits .ps) i)) (tera i); cycles = Ieee.div binary64 (ofInt binary64 (cycles-is s i)) (mega i) }
+    λ i. record {
+      seconds = Ieee.div binary64 (ofInt binary64 (back (s .fits .ps) i)) (ofInt binary64 (pos 1_000_000_000_000));
+      cycles = Ieee.div binary64 (ofInt binary64 (cycles-is s i)) (ofInt binary64 (pos 1_000_000));
+    }
 
 pub record-of-spec : {M : Type 1} → statement M
 record-of-spec = tie.close (tie.spec int-to-float-t2 mul-t4 int-to-float-t5 returns)

@@ -23,7 +23,7 @@ abbrev μ-loop : tie.MeasureT-loop
 μ-loop s m at₀ i₀ at i = m - i
 
 loop-holds : tie.Need-loop-holds Inv-loop μ-loop
-loop-holds c = (refl, omega arith, omega arith, refl)
+loop-holds c = (omega arith, omega arith, omega arith, refl)
 
 mul-b : tie.Need-mul-b Inv-loop μ-loop
 mul-b c = omega arith

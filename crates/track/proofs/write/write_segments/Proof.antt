@@ -1,6 +1,6 @@
 -- `track::write_segments` meets its contract.
 use mathlib.Core.Path.{_≡_, refl, sym, ap, subst, _∙_}
-use mathlib.Core.List.{List, _∷_, _++_}
+use mathlib.Core.List.{_∷_, _++_}
 use mathlib.Core.Logic.{⊎-elim}
 use Prim.Native.Nat.{ℕ, _+_, _*_, _-_, _≤_, _<_}
 use native.Mathlib.Omega.{arith}
@@ -8,7 +8,6 @@ use native.Mathlib.Nat.{zero-add}
 use lib.Dec.{T}
 use lib.IntN.{ℤ, pos}
 use lib.ListN.{length, take, drop, getD}
-use lib.Seq.{take-all}
 use mir.Syntax.{w64}
 use mir.Val.{toZ, ofZ}
 use mir.ValLaws.{toZ-pos}
@@ -18,7 +17,7 @@ use Rattle.fit.proofs.Tests.{lt-or}
 use Rattle.fit.proofs.Lines.{offset-size, rate-size}
 use Rattle.track.specs.Segments.{flat}
 use Rattle.track.specs.Made.{trackOf, runOf, segOf, startAt}
-use Rattle.track.proofs.Runs.{restOf, flat-length, trackOf-start, rest-step, restOf-none, run-pos, run-within, run-cap, run-fits, startAt-next}
+use Rattle.track.proofs.Runs.{restOf, trackOf-start, rest-step, restOf-none, run-pos, run-within, run-cap, run-fits, startAt-next}
 use Rattle.track.proofs.Theorems.{trackOf-half}
 use Rattle.track.proofs.Room.{put-again}
 use Rattle.track.proofs.write.write_segments.Statement.{statement}
@@ -26,7 +25,7 @@ use Rattle.track.proofs.write.write_segments.Tie as tie
 
 abbrev Inv-loop : tie.InvT-loop
 Inv-loop s t ks ps many room₀ f₀ m₀ room f m =
-    (m ≤ many) × (f ≤ length s) × (m ≤ f) × (m + length (restOf s t (length s - m) f) ≡ many)
+    (m ≤ many) × (f ≤ length s) × (m ≤ f) × (m + length (restOf s t (length s - m) f) ≡ length (trackOf s t))
     × (length room ≡ length room₀) × (drop (4 * m) (flat (trackOf s t)) ≡ flat (restOf s t (length s - m) f))
     × (room ≡ take (4 * m) (flat (trackOf s t)) ++ drop (4 * m) room₀) × (f ≡ startAt s t m)
 
@@ -39,7 +38,7 @@ loop-holds c = (
   omega arith,
   omega arith,
   omega arith,
-  zero-add _ ∙ ap length (trackOf-start (c .args .samples .now) (c .args .tolerance)) ∙ sym (c .pre .1 .1 .0 .0),
+  zero-add _ ∙ ap length (trackOf-start (c .args .samples .now) (c .args .tolerance)),
   refl,
   ap flat (sym (trackOf-start (c .args .samples .now) (c .args .tolerance))),
   refl,
@@ -55,9 +54,9 @@ run : (c : tie.In-loop Inv-loop μ-loop) → let a = c .before in let x = a .bef
 run c = let a = c .before in let x = a .before .args in let s = x .samples .now in let t = x .tolerance in let f = a .loop .f in let m = a .loop .m in
     let k = getD (x .counts .now) m 0 in
     let sm = a .before .pre .0 .0 in let tl = a .before .pre .1 .0 in
-    let st = a .before .pre .1 .1 .0 .1 m (c .loop-test .taken) in
+    let st = a .before .pre .1 .1 .0 .1 m (omega (arith, c .loop-test .taken)) in
     let e : k ≡ runOf s t f = st .0 ∙ ap (λ (z : ℕ). runOf s t z) (sym (a .loop .inv .7)) in
-    let h : f < length s = ⊎-elim (λ l. l) (λ l. absurd (omega (arith, ap length (restOf-none s t (length s - m) f l), a .loop .inv .3, c .loop-test .taken))) (lt-or f (length s)) in (
+    let h : f < length s = ⊎-elim (λ l. l) (λ l. absurd (omega (arith, ap length (restOf-none s t (length s - m) f l), a .loop .inv .3, a .before .pre .1 .1 .0 .0, c .loop-test .taken))) (lt-or f (length s)) in (
       h,
       omega (arith, run-pos s t sm tl f),
       omega (arith, run-cap s t sm tl f h),
@@ -153,7 +152,6 @@ returns c =
     let F = flat (trackOf (x .samples .now) (x .tolerance)) in
     let e : a .loop .m ≡ x .many = omega arith in
     a .loop .inv .6 ∙ ap (λ (z : ℕ). take (4 * z) F ++ drop (4 * z) (x .room .now)) e
-    ∙ ap (λ (z : List ℤ). z ++ drop (4 * x .many) (x .room .now)) (take-all (4 * x .many) F (omega (arith, flat-length (trackOf (x .samples .now) (x .tolerance)), a .before .pre .1 .1 .0 .0)))
 
 pub write-segments-spec : {M : Type 1} → statement M
 write-segments-spec =
