@@ -13,7 +13,8 @@ use lib.Signed.{leZ, ltZ}
 use Rattle.whole.specs.Whole.{P, N, ∣_∣}
 use Rattle.whole.proofs.Linear.{and-true, leZ-true, ⇒eq, ltZ-true, ltZ-false, no-ft}
 use Rattle.whole.proofs.Quote.{⟨_⟩, #, _⊕_, _⊝_, bal, by≡}
-use Rattle.track.proofs.Each.{each-at, and-no}
+use Rattle.whole.proofs.Each.{below-each}
+use Rattle.whole.proofs.Tests.{and-no}
 use Rattle.predict.specs.Lent.{Lent, lentOf, predicted, placeOk, lengthOk, rangeOk, predictionsOk, segmentOk, soundFrom, covers, answerAt}
 use Rattle.predict.specs.Ends.{reach}
 use Rattle.predict.proofs.Reach.{round-reach}
@@ -76,7 +77,7 @@ good at x h =
     let e = and-true (leZ (pos at) (x .first)) (leZ (x .first) (pos at)) (f .0) in
     let l = and-true (leZ (pos 1) (x .count)) (leZ (x .count) (pos 1024)) (p .1) in
     let r = and-true (leb ∣ x .offset ∣ 9_000_000_000_000_000) (leb ∣ x .rate ∣ 20_000_000_000_000_000) (b .1) in
-    let q : (j : ℕ) → j < P (x .count) → leb ∣ predicted x (pos j) ∣ 131_000_000_000 ≡ true = λ j k. each-at (P (x .count)) j (λ i. leb ∣ predicted x (pos i) ∣ 131_000_000_000) (a .1) k in
+    let q : (j : ℕ) → j < P (x .count) → leb ∣ predicted x (pos j) ∣ 131_000_000_000 ≡ true = λ j k. below-each (P (x .count)) j (λ i. leb ∣ predicted x (pos i) ∣ 131_000_000_000) k (a .1) in
     let c = above-zero (x .count) (l .0) in
     let n : N (x .count) ≡ 0 = ap N c in record {
       first = ⇒eq (x .first) (pos at) (omega (arith, leZ-true (pos at) (x .first) (e .0), leZ-true (x .first) (pos at) (e .1)));

@@ -20,7 +20,9 @@ use Rattle.track.specs.Segments.{Segment, Stands, flat}
 use Rattle.track.specs.Rule.{RuledFrom}
 use Rattle.track.specs.Made.{trackOf}
 use Rattle.track.specs.Answer.{inRange}
-use Rattle.track.proofs.Each.{ranged, each-of, and-both}
+use Rattle.whole.proofs.Each.{below-all}
+use Rattle.whole.proofs.Tests.{and-yes}
+use Rattle.track.proofs.Ranged.{ranged}
 use Rattle.track.proofs.Theorems.{trackOf-ruled}
 use Rattle.predict.specs.Lent.{Lent, lentOf, predicted, placeOk, lengthOk, rangeOk, predictionsOk, segmentOk, soundFrom, answerAt, predictOutcome}
 use Rattle.predict.specs.Ends.{reach}
@@ -87,27 +89,27 @@ module _ (s : List ℤ) (t : ℕ) (small : Small s) (tol : t ≤ 1_000_000) wher
   segment-sound : length s ≤ 4096 → (x : Segment) (f : ℕ) → Stands s t f x → (x .count ≡ 1 → x .rate ≡ pos 0) → segmentOk f (lentSeg x) ≡ true
   unfolding segmentOk predictionsOk
   segment-sound few x f a z =
-      and-both (placeOk f (lentSeg x) && lengthOk (lentSeg x) && rangeOk (lentSeg x)) (predictionsOk (lentSeg x))
-      (and-both (placeOk f (lentSeg x) && lengthOk (lentSeg x)) (rangeOk (lentSeg x))
-      (and-both (placeOk f (lentSeg x)) (lengthOk (lentSeg x)) place long)
-      (and-both (leb ∣ x .offset ∣ 9_000_000_000_000_000) (leb ∣ x .rate ∣ 20_000_000_000_000_000)
+      and-yes
+      (and-yes
+      (and-yes place long)
+      (and-yes
       (le-leb ∣ x .offset ∣ 9_000_000_000_000_000 (omega (arith, offset-size (x .offset) (x .rate) f (x .count) (a .fits) (a .some))))
       (le-leb ∣ x .rate ∣ 20_000_000_000_000_000 (rated x f (a .some) (a .fits) z))))
-      (each-of (x .count) (λ j. leb ∣ predicted (lentSeg x) (pos j) ∣ 131_000_000_000) (λ j l. prediction-size (x .offset) (x .rate) f (x .count) j (a .fits) l))
+      (below-all (x .count) (λ j. leb ∣ predicted (lentSeg x) (pos j) ∣ 131_000_000_000) (λ j l. prediction-size (x .offset) (x .rate) f (x .count) j (a .fits) l))
     where
       place : placeOk f (lentSeg x) ≡ true
-      place = and-both (leb f (x .first) && leb (x .first) f) (leb (f + x .count) 4096)
-          (and-both (leb f (x .first)) (leb (x .first) f) (le-leb f (x .first) (omega (arith, a .first))) (le-leb (x .first) f (omega (arith, a .first)))) (le-leb (f + x .count) 4096 (omega (arith, a .within)))
+      place = and-yes
+          (and-yes (le-leb f (x .first) (omega (arith, a .first))) (le-leb (x .first) f (omega (arith, a .first)))) (le-leb (f + x .count) 4096 (omega (arith, a .within)))
 
       long : lengthOk (lentSeg x) ≡ true
-      long = and-both (leb 1 (x .count)) (leb (x .count) 1024) (le-leb 1 (x .count) (a .some)) (le-leb (x .count) 1024 (a .cap))
+      long = and-yes (le-leb 1 (x .count) (a .some)) (le-leb (x .count) 1024 (a .cap))
 
   -- by the rule, from sample f on
   ruled-sound : (few : length s ≤ 4096) {f : ℕ} {xs : List Segment} → RuledFrom s t f xs → soundFrom f (lentOf (flat xs)) ≡ true
   unfolding flat lentOf soundFrom
   ruled-sound few (RuledFrom.end e) = refl
   ruled-sound few (RuledFrom.seg {f} {x} {xs} a b r) =
-      and-both (segmentOk f (lentSeg x)) (soundFrom (f + x .count) (lentOf (flat xs))) (segment-sound few x f a (b .alone)) (ruled-sound few r)
+      and-yes (segment-sound few x f a (b .alone)) (ruled-sound few r)
 
   ruled-near : (few : length s ≤ 4096) {f : ℕ} {xs : List Segment} → RuledFrom s t f xs → (k : ℕ) → f ≤ k → k < length s
       → (answerAt (lentOf (flat xs)) k .refusal ≡ pos 0) × (∣ answerAt (lentOf (flat xs)) k .value -ℤ sample s k ∣ ≤ t)

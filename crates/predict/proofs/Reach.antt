@@ -13,8 +13,8 @@ use Rattle.whole.specs.Whole.{P, N, ∣_∣, R, near}
 use Rattle.whole.proofs.Linear.{P-neg, N-neg, no-ft}
 use Rattle.whole.proofs.Quote.{⟨_⟩, #, _⊕_, _⊝_, _⊗_, bal, by≡}
 use Rattle.fit.proofs.Tests.{lt-or}
-use Rattle.track.specs.Answer.{each}
-use Rattle.track.proofs.Each.{each-of, each-fails}
+use Rattle.whole.specs.Each.{allBelow}
+use Rattle.whole.proofs.Each.{below-all, below-fails}
 use Rattle.predict.specs.Lent.{Lent, predicted, lengthOk, predictionsOk}
 use Rattle.predict.specs.Ends.{reach, endsOk}
 
@@ -65,8 +65,8 @@ module _ (A r : ℤ) (m : ℕ) where
   at-last : test m ≡ leb ∣ A +ℤ r *ℤ (pos (suc m) -ℤ pos 1) ∣ reach
   at-last = round-reach (A +ℤ r *ℤ pos m) ∙ ap (λ (z : ℤ). leb ∣ A +ℤ r *ℤ z ∣ reach) (sym last-is)
 
-  ends : (a b : Bool) → a ≡ leb ∣ A ∣ reach → b ≡ leb ∣ A +ℤ r *ℤ (pos (suc m) -ℤ pos 1) ∣ reach → each (suc m) test ≡ (a && b)
-  ends true true p q = each-of (suc m) test all
+  ends : (a b : Bool) → a ≡ leb ∣ A ∣ reach → b ≡ leb ∣ A +ℤ r *ℤ (pos (suc m) -ℤ pos 1) ∣ reach → allBelow (suc m) test ≡ (a && b)
+  ends true true p q = below-all (suc m) test all
     where
       last : ∣ A +ℤ r *ℤ pos m ∣ ≤ reach
       last = subst (λ (z : ℤ). ∣ A +ℤ r *ℤ z ∣ ≤ reach) last-is (leb-true ∣ A +ℤ r *ℤ (pos (suc m) -ℤ pos 1) ∣ reach (sym q))
@@ -74,15 +74,15 @@ module _ (A r : ℤ) (m : ℕ) where
       all : (j : ℕ) → j < suc m → test j ≡ true
       all j h = round-reach (A +ℤ r *ℤ pos j)
           ∙ le-leb ∣ A +ℤ r *ℤ pos j ∣ reach (between-ends A r reach m j (leb-true ∣ A ∣ reach (sym p)) last (omega arith))
-  ends true false p q = each-fails (suc m) m test (omega arith) (at-last ∙ sym q)
-  ends false b p q = each-fails (suc m) 0 test (omega arith) (at-first ∙ sym p)
+  ends true false p q = below-fails (suc m) m test (omega arith) (at-last ∙ sym q)
+  ends false b p q = below-fails (suc m) 0 test (omega arith) (at-first ∙ sym p)
 
 -- THE LAW: judged at both ends, all of a segment's predictions are judged
 pub ends-enough : (x : Lent) → lengthOk x ≡ true → predictionsOk x ≡ endsOk (x .offset) (x .rate) (x .count)
 unfolding predictionsOk
 ends-enough x h = by-count (x .count) h
   where
-    by-count : (c : ℤ) → (leZ (pos 1) c && leZ c (pos 1024)) ≡ true → each (P c) (λ j. leb ∣ predicted x (pos j) ∣ 131_000_000_000) ≡ endsOk (x .offset) (x .rate) c
+    by-count : (c : ℤ) → (leZ (pos 1) c && leZ c (pos 1024)) ≡ true → allBelow (P c) (λ j. leb ∣ predicted x (pos j) ∣ 131_000_000_000) ≡ endsOk (x .offset) (x .rate) c
     by-count (pos zero) k = no-ft k
     by-count (pos (suc m)) k = ends (x .offset) (x .rate) m (leb ∣ x .offset ∣ reach) (leb ∣ x .offset +ℤ x .rate *ℤ (pos (suc m) -ℤ pos 1) ∣ reach) refl refl
     by-count (negsuc n) k = no-ft k

@@ -7,7 +7,7 @@ use lib.Dec.{leb}
 use lib.IntN.{ℤ, pos, _+ℤ_, _-ℤ_, _*ℤ_}
 use lib.Signed.{leZ, ltZ}
 use Rattle.whole.specs.Whole.{P, ∣_∣, R}
-use Rattle.track.specs.Answer.{each}
+use Rattle.whole.specs.Each.{allBelow}
 use Rattle.track.specs.declared.Number.{Number}
 
 -- a segment's four numbers, as they are lent
@@ -45,7 +45,7 @@ rangeOk x = leb ∣ x .offset ∣ 9_000_000_000_000_000 && leb ∣ x .rate ∣ 2
 
 -- predictions: "the prediction at any of its samples beyond ±131,000,000,000"
 unfoldable pub predictionsOk : Lent → Bool
-predictionsOk x = each (P (x .count)) (λ j. leb ∣ predicted x (pos j) ∣ 131_000_000_000)
+predictionsOk x = allBelow (P (x .count)) (λ j. leb ∣ predicted x (pos j) ∣ 131_000_000_000)
 
 unfoldable pub segmentOk : ℕ → Lent → Bool
 segmentOk at x = placeOk at x && lengthOk x && rangeOk x && predictionsOk x

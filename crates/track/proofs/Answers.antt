@@ -13,7 +13,7 @@ use Rattle.fit.proofs.Tests.{lt-or}
 use Rattle.track.specs.Segments.{Segment, IsTrack}
 use Rattle.track.specs.Made.{trackOf}
 use Rattle.track.specs.Answer.{inRange, Outcome, refused, written, outcome}
-use Rattle.track.proofs.Each.{ranged}
+use Rattle.track.proofs.Ranged.{ranged}
 use Rattle.track.proofs.Theorems.{trackOf-track, trackOf-fewest, trackOf-half}
 
 -- any two results that the promise allows are equal

@@ -1,6 +1,6 @@
 pub mod Theorems
 pub mod Runs
 pub mod Room
-pub mod Each
+pub mod Ranged
 pub mod Answers
 pub mod Starred

@@ -7,14 +7,15 @@ use Rattle.fit.specs.Greedy.{grow, longest, counts}
 use Rattle.fit.specs.Rates.{low, upp, rowLo, rowHi, lo, hi, fit, off, bias, scaled, fitOf, tilted, lifted, rateOf, offsetOf}
 use Rattle.track.specs.Segments.{flat}
 use Rattle.track.specs.Made.{segOf, segsOf, trackOf}
-use Rattle.track.specs.Answer.{each, inRange, refused, outcome}
+use Rattle.whole.specs.Each.{allBelow}
+use Rattle.track.specs.Answer.{inRange, refused, outcome}
 use Rattle.track.specs.Starred.{eleven, trackAnswer, trackCases}
 
 pub tracks-hold : Hold trackAnswer trackCases
-unfolding trackCases grow longest counts low upp rowLo rowHi lo hi fit off bias scaled fitOf tilted lifted rateOf offsetOf segOf segsOf trackOf flat each inRange outcome
+unfolding trackCases grow longest counts low upp rowLo rowHi lo hi fit off bias scaled fitOf tilted lifted rateOf offsetOf segOf segsOf trackOf flat allBelow inRange outcome
 tracks-hold = refl
 
 -- "No samples: 2."
 pub none-refused : outcome [] (pos 0) eleven ≡ refused 2 eleven
-unfolding each inRange outcome
+unfolding allBelow inRange outcome
 none-refused = refl

@@ -1,28 +1,24 @@
 -- What the call `track` answers, and what it leaves in the lent room: document 01, 'Track' and 'Refusal numbers' 2 and 8.
-use Prim.Native.Nat.{ℕ, zero, suc, _*_, _/_}
-use mathlib.Core.Bool.{Bool, true, cond, _&&_}
+use Prim.Native.Nat.{ℕ, _*_, _/_}
+use mathlib.Core.Bool.{Bool, cond, _&&_}
 use mathlib.Core.List.{List, _++_}
 use lib.Dec.{leb}
 use lib.ListN.{length, drop}
 use lib.IntN.{ℤ, pos}
 use lib.Signed.{leZ}
 use Rattle.whole.specs.Whole.{P, ∣_∣}
+use Rattle.whole.specs.Each.{allBelow}
 use Rattle.fit.specs.Line.{sample}
 use Rattle.track.specs.declared.Number.{Number}
 use Rattle.track.specs.Segments.{Segment, flat}
 use Rattle.track.specs.Made.{trackOf}
-
--- the test holds of each number below n
-unfoldable pub each : ℕ → (ℕ → Bool) → Bool
-each zero p = true
-each (suc n) p = each n p && p n
 
 -- what refusal 2 leaves: "samples 1-4,096", "each within ±130,000,000,000", and "tolerance 0-1,000,000"
 abbrev pub smallAt : List ℤ → ℕ → Bool
 smallAt s i = leb ∣ sample s i ∣ 130_000_000_000
 
 unfoldable pub inRange : List ℤ → ℤ → Bool
-inRange s t = leb 1 (length s) && leb (length s) 4096 && leZ (pos 0) t && leZ t (pos 1_000_000) && each (length s) (smallAt s)
+inRange s t = leb 1 (length s) && leb (length s) 4096 && leZ (pos 0) t && leZ t (pos 1_000_000) && allBelow (length s) (smallAt s)
 
 -- the answer, with the room after the call
 pub record Outcome : Type 0 where

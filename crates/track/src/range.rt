@@ -1,12 +1,13 @@
 // Refusal 2: what a track call takes.
 ghost use mathlib.Core.Path.{_≡_};
 ghost use lib.ListN.{length};
-ghost use Rattle.track.specs.Answer.{each, smallAt, inRange};
+ghost use Rattle.whole.specs.Each.{allBelow};
+ghost use Rattle.track.specs.Answer.{smallAt, inRange};
 use whole::sign::in_range;
 
 // Whether each sample is at most 130_000_000_000 in size.
 fn all_small(samples: &[i64]) -> bool
-    ensures { λ r. ⌜ r ≡ each (length (now (samples .entry))) (smallAt (now (samples .entry))) ⌝ }
+    ensures { λ r. ⌜ r ≡ allBelow (length (now (samples .entry))) (smallAt (now (samples .entry))) ⌝ }
 {
     let mut i: usize = 0;
     while i < samples.len() {

@@ -15,6 +15,14 @@ passed {r} e h = sym e ∙ not-false r h
 pub and-yes : {a b : Bool} → a ≡ true → b ≡ true → a && b ≡ true
 and-yes h k = rw (h, k)
 
+-- and where one fails
+pub no-and : (a b : Bool) → a ≡ false → (a && b) ≡ false
+no-and a b q = cc
+
+pub and-no : (a b : Bool) → b ≡ false → (a && b) ≡ false
+and-no true b q = q
+and-no false b q = refl
+
 -- of two tests joined one failed; Linear's `and-true` is the other half
 pub and-false : (s t : Bool) → (s && t) ≡ false → (s ≡ false) ⊎ (t ≡ false)
 and-false true t e = inr e

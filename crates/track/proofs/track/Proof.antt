@@ -21,7 +21,7 @@ use Rattle.track.specs.Segments.{flat}
 use Rattle.track.specs.Made.{trackOf}
 use Rattle.track.specs.Answer.{inRange}
 use Rattle.track.proofs.Runs.{flat-length}
-use Rattle.track.proofs.Each.{Ranged, ranged}
+use Rattle.track.proofs.Ranged.{Ranged, ranged}
 use Rattle.track.proofs.Answers.{answer-2, answer-8, answer-0}
 use Rattle.track.proofs.Theorems.{trackOf-half}
 use Rattle.track.proofs.track.Statement.{statement}

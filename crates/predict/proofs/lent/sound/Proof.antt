@@ -9,7 +9,7 @@ use lib.ListN.{length, getD, drop}
 use lib.IntN.{ℤ, pos}
 use Rattle.whole.specs.Whole.{P, ∣_∣}
 use Rattle.whole.proofs.Linear.{back}
-use Rattle.track.proofs.Each.{no-and}
+use Rattle.whole.proofs.Tests.{no-and}
 use Rattle.predict.specs.Lent.{Lent, lentOf, segmentOk, soundFrom}
 use Rattle.predict.proofs.Bools.{yes-and}
 use Rattle.predict.proofs.Numbers.{lentAt, lentOf-more, lentOf-none, Good, good}

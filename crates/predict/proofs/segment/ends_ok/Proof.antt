@@ -11,7 +11,7 @@ use mir.Val.{toZ, ofZ}
 use Rattle.whole.specs.Whole.{∣_∣}
 use Rattle.whole.proofs.Linear.{back}
 use Rattle.whole.proofs.Machine.{M, var, lit, _⊟_, ok, is}
-use Rattle.track.proofs.Each.{no-and}
+use Rattle.whole.proofs.Tests.{no-and}
 use Rattle.predict.specs.Ends.{reach, inReach}
 use Rattle.predict.proofs.Bools.{yes-and, counted, less-none}
 use Rattle.predict.proofs.segment.ends_ok.Statement.{statement}

@@ -12,7 +12,7 @@ use mir.Val.{SFits, toZ, ofZ}
 use mir.ValLaws.{toZ-pos}
 use Rattle.whole.proofs.Linear.{back, abs-fits, abs-sub}
 use Rattle.whole.proofs.Quote.{⟨_⟩, #, _⊕_, _⊝_, bal}
-use Rattle.track.proofs.Each.{no-and}
+use Rattle.whole.proofs.Tests.{no-and}
 use Rattle.predict.proofs.Bools.{yes-and, leZ-same}
 use Rattle.predict.proofs.segment.place_ok.Statement.{statement}
 use Rattle.predict.proofs.segment.place_ok.Tie as tie

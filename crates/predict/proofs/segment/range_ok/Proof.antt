@@ -7,7 +7,7 @@ use lib.Dec.{leb}
 use lib.IntN.{ℤ}
 use Rattle.whole.specs.Whole.{∣_∣}
 use Rattle.whole.proofs.Linear.{back}
-use Rattle.track.proofs.Each.{no-and}
+use Rattle.whole.proofs.Tests.{no-and}
 use Rattle.predict.proofs.Bools.{yes-and}
 use Rattle.predict.proofs.segment.range_ok.Statement.{statement}
 use Rattle.predict.proofs.segment.range_ok.Tie as tie

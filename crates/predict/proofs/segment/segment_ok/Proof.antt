@@ -9,7 +9,7 @@ use lib.IntN.{ℤ, pos, _+ℤ_}
 use lib.Signed.{leZ, _≤ℤ_}
 use Rattle.whole.specs.Whole.{∣_∣}
 use Rattle.whole.proofs.Linear.{back, and-true, leZ-true, ⇒le}
-use Rattle.track.proofs.Each.{no-and, and-no, and-both}
+use Rattle.whole.proofs.Tests.{no-and, and-no, and-yes}
 use Rattle.predict.specs.Lent.{Lent, placeOk, lengthOk, rangeOk, predictionsOk, segmentOk}
 use Rattle.predict.specs.Ends.{endsOk}
 use Rattle.predict.proofs.Bools.{yes-and}
@@ -37,7 +37,7 @@ module _ (at : ℕ) (x : Lent) where
   by-ends : placeOk at x ≡ true → lengthOk x ≡ true → rangeOk x ≡ true → endsOk (x .offset) (x .rate) (x .count) ≡ segmentOk at x
   unfolding segmentOk
   by-ends p l r = sym (ends-enough x l)
-      ∙ sym (yes-and (placeOk at x && lengthOk x && rangeOk x) (predictionsOk x) (and-both (placeOk at x && lengthOk x) (rangeOk x) (and-both (placeOk at x) (lengthOk x) p l) r))
+      ∙ sym (yes-and (placeOk at x && lengthOk x && rangeOk x) (predictionsOk x) (and-yes (and-yes p l) r))
 
 place-ok-requires : tie.Need-place-ok-requires
 place-ok-requires c κs = search needs

@@ -9,19 +9,21 @@ use lib.IntN.{ℤ, pos, negsuc}
 use lib.Signed.{leZ}
 use Rattle.whole.proofs.Linear.{back}
 use Rattle.fit.specs.Line.{sample}
-use Rattle.track.specs.Answer.{each, smallAt}
-use Rattle.track.proofs.Each.{each-next, each-fails, small-test}
+use Rattle.whole.specs.Each.{allBelow}
+use Rattle.track.specs.Answer.{smallAt}
+use Rattle.whole.proofs.Each.{below-next, below-fails}
+use Rattle.track.proofs.Ranged.{small-test}
 use Rattle.track.proofs.range.all_small.Statement.{statement}
 use Rattle.track.proofs.range.all_small.Tie as tie
 
 abbrev Inv-loop : tie.InvT-loop
-Inv-loop s i₀ i = (i ≤ length s) × (each i (smallAt s) ≡ true)
+Inv-loop s i₀ i = (i ≤ length s) × (allBelow i (smallAt s) ≡ true)
 
 abbrev μ-loop : tie.MeasureT-loop
 μ-loop s i₀ i = length s - i
 
 loop-holds : tie.Need-loop-holds Inv-loop μ-loop
-unfolding each
+unfolding allBelow
 loop-holds c = (omega arith, refl)
 
 mul-z : tie.Need-mul-z Inv-loop μ-loop
@@ -40,7 +42,7 @@ says c = let a = c .before .before .before in let z = sample (a .before .args .s
 
 returns : tie.Need-returns Inv-loop μ-loop
 returns c = let a = c .before .before .before .before in let s = a .before .args .samples .now in
-    sym (each-fails (length s) (a .loop .i) (smallAt s) (c .before .before .before .loop-test .taken) (sym (says (c .before)) ∙ not-true _ (c .if1 .taken)))
+    sym (below-fails (length s) (a .loop .i) (smallAt s) (c .before .before .before .loop-test .taken) (sym (says (c .before)) ∙ not-true _ (c .if1 .taken)))
 
 add-i : tie.Need-add-i Inv-loop μ-loop
 add-i c = omega arith
@@ -50,11 +52,11 @@ loop-less c = omega arith
 
 loop-again : tie.Need-loop-again Inv-loop μ-loop
 loop-again c = let a = c .before .before .before .before in let s = a .before .args .samples .now in
-    (omega arith, each-next (a .loop .i) (smallAt s) (a .loop .inv .1) (sym (says (c .before)) ∙ not-false _ (c .if1 .left)))
+    (omega arith, below-next (a .loop .i) (smallAt s) (a .loop .inv .1) (sym (says (c .before)) ∙ not-false _ (c .if1 .left)))
 
 returns-2 : tie.Need-returns-2 Inv-loop μ-loop
 returns-2 c = let a = c .before in let s = a .before .args .samples .now in let e : a .loop .i ≡ length s = omega arith in
-    sym (ap (λ (n : ℕ). each n (smallAt s)) (sym e) ∙ a .loop .inv .1)
+    sym (ap (λ (n : ℕ). allBelow n (smallAt s)) (sym e) ∙ a .loop .inv .1)
 
 pub all-small-spec : {M : Type 1} → statement M
 all-small-spec =

@@ -11,8 +11,10 @@ use lib.Signed.{leZ, ltZ}
 use mir.Syntax.{w64}
 use mir.Val.{toZ, ofZ}
 use Rattle.whole.proofs.Linear.{back}
-use Rattle.track.specs.Answer.{each, smallAt, inRange}
-use Rattle.track.proofs.Each.{and-no, no-and, not-below}
+use Rattle.whole.specs.Each.{allBelow}
+use Rattle.track.specs.Answer.{smallAt, inRange}
+use Rattle.whole.proofs.Tests.{and-no, no-and}
+use Rattle.track.proofs.Ranged.{not-below}
 use Rattle.track.proofs.range.call_in_range.Statement.{statement}
 use Rattle.track.proofs.range.call_in_range.Tie as tie
 
@@ -37,23 +39,23 @@ module _ (a b c d e : Bool) where
 module _ (s : List ℤ) (t : ℤ) where
   short : leb 1 (length s) ≡ false → false ≡ inRange s t
   unfolding inRange
-  short h = at-a (leb 1 (length s)) (leb (length s) 4096) (leZ (pos 0) t) (leZ t (pos 1_000_000)) (each (length s) (smallAt s)) h
+  short h = at-a (leb 1 (length s)) (leb (length s) 4096) (leZ (pos 0) t) (leZ t (pos 1_000_000)) (allBelow (length s) (smallAt s)) h
 
   long : leb (length s) 4096 ≡ false → false ≡ inRange s t
   unfolding inRange
-  long h = at-b (leb 1 (length s)) (leb (length s) 4096) (leZ (pos 0) t) (leZ t (pos 1_000_000)) (each (length s) (smallAt s)) h
+  long h = at-b (leb 1 (length s)) (leb (length s) 4096) (leZ (pos 0) t) (leZ t (pos 1_000_000)) (allBelow (length s) (smallAt s)) h
 
   low : leZ (pos 0) t ≡ false → false ≡ inRange s t
   unfolding inRange
-  low h = at-c (leb 1 (length s)) (leb (length s) 4096) (leZ (pos 0) t) (leZ t (pos 1_000_000)) (each (length s) (smallAt s)) h
+  low h = at-c (leb 1 (length s)) (leb (length s) 4096) (leZ (pos 0) t) (leZ t (pos 1_000_000)) (allBelow (length s) (smallAt s)) h
 
   high : leZ t (pos 1_000_000) ≡ false → false ≡ inRange s t
   unfolding inRange
-  high h = at-d (leb 1 (length s)) (leb (length s) 4096) (leZ (pos 0) t) (leZ t (pos 1_000_000)) (each (length s) (smallAt s)) h
+  high h = at-d (leb 1 (length s)) (leb (length s) 4096) (leZ (pos 0) t) (leZ t (pos 1_000_000)) (allBelow (length s) (smallAt s)) h
 
-  rest : leb 1 (length s) ≡ true → leb (length s) 4096 ≡ true → leZ (pos 0) t ≡ true → leZ t (pos 1_000_000) ≡ true → each (length s) (smallAt s) ≡ inRange s t
+  rest : leb 1 (length s) ≡ true → leb (length s) 4096 ≡ true → leZ (pos 0) t ≡ true → leZ t (pos 1_000_000) ≡ true → allBelow (length s) (smallAt s) ≡ inRange s t
   unfolding inRange
-  rest h k l m = at-e (leb 1 (length s)) (leb (length s) 4096) (leZ (pos 0) t) (leZ t (pos 1_000_000)) (each (length s) (smallAt s)) h k l m
+  rest h k l m = at-e (leb 1 (length s)) (leb (length s) 4096) (leZ (pos 0) t) (leZ t (pos 1_000_000)) (allBelow (length s) (smallAt s)) h k l m
 
 low-is : (c : tie.Else2) (x : Bool) → ltZ (toZ w64 (ofZ w64 (c .before .before .args .tolerance))) (pos 0) ≡ x → leZ (pos 0) (c .before .before .args .tolerance) ≡ not x
 low-is c x h = not-below (pos 0) (c .before .before .args .tolerance) x (sym (ap (λ (y : ℤ). ltZ y (pos 0)) (back (c .before .before .fits .tolerance))) ∙ h)
