@@ -1,10 +1,13 @@
 // A lent track, read segment by segment.
 ghost use mathlib.Core.Path.{_≡_};
 ghost use mathlib.Core.Bool.{true};
+ghost use Prim.Native.Nat.{_^_, _≤_};
+ghost use Rattle.whole.specs.Whole.{∣_∣, R};
 ghost use Rattle.predict.specs.Lent.{lentOf, soundFrom, answerAt};
 use super::segment::segment_ok;
 use track::Number;
-use whole::divide::round_div;
+use whole::divide::floor_div;
+use whole::divide::half;
 use whole::sign::size;
 
 // Whether no segment is malformed; each one is looked at.
@@ -29,6 +32,14 @@ pub fn sound(track: &[i64]) -> bool
     true
 }
 
+// R(x / 65,536), by a floor: the half that is added sends a tie away from zero.
+fn rounded(x: i64) -> i64
+    requires { ⌜ ∣ x ∣ ≤ 2 ^ 60 ⌝ }
+    ensures { λ r. ⌜ r ≡ R x 65536 ⌝ }
+{
+    floor_div(x + half(x, 32768), 65536)
+}
+
 // The prediction at the sample of a track that is sound; 9 where no segment covers it.
 pub fn prediction_at(track: &[i64], sample: u64) -> Number
     requires { ⌜ soundFrom 0 (lentOf (now track)) ≡ true ⌝ }
@@ -47,7 +58,7 @@ pub fn prediction_at(track: &[i64], sample: u64) -> Number
             let j = (sample - at) as i64;
             return Number {
                 refusal: 0,
-                value: round_div(offset + rate * j, 65536),
+                value: rounded(offset + rate * j),
             };
         }
         at = end;

@@ -190,43 +190,48 @@ pub floor-abs : (z : ℤ) (b k : ℕ) → 0 < b → ∣ z ∣ ≤ k * b → ∣ 
 floor-abs (pos a) b k h l = omega (arith, div-le-of-le-mul b {m = a} {n = k} (omega arith))
 floor-abs (negsuc a) b k h l = omega (arith, div-lt-iff-lt-mul {x = a} {y = k} h .1 (omega arith))
 
--- R by a floor, for a divisor of 2^30
-pub R-floor : (z : ℤ) → floorZ (z +ℤ halfFor z) 1073741824 ≡ R z 1073741824
-R-floor (pos a) = ap pos (near-half a 1073741824)
-R-floor (negsuc a) =
-    let n = near (suc a) 1073741824 in
-    floor-unique (negsuc a +ℤ pos 536870911) (negℤ (pos n)) 1073741824 (omega arith)
-    (by≤ (⊖ (# n) ⊗ # 1073741824) (⟨ negsuc a ⟩ ⊕ # 536870911) (omega (arith, near-hi (suc a) 1073741824 (omega arith))))
-    (by< (⟨ negsuc a ⟩ ⊕ # 536870911) (⊖ (# n) ⊗ # 1073741824 ⊕ # 1073741824) (omega (arith, near-lo (suc a) 1073741824)))
+-- R by a floor, for an even divisor
+pub R-floor : (z : ℤ) (h : ℕ) → 0 < h → floorZ (z +ℤ halfFor z (pos h)) (2 * h) ≡ R z (2 * h)
+R-floor (pos a) h l =
+    let e : h ≡ 2 * h / 2 = omega arith in
+    ap pos (ap (λ (k : ℕ). (a + k) / (2 * h)) e ∙ near-half a (2 * h))
+R-floor (negsuc a) h l =
+    let b = 2 * h in
+    let n = near (suc a) b in
+    floor-unique (negsuc a +ℤ (pos h -ℤ pos 1)) (negℤ (pos n)) b (omega arith)
+    (by≤ (⊖ (# n) ⊗ # b) (⟨ negsuc a ⟩ ⊕ (# h ⊝ # 1)) (omega (arith, near-hi (suc a) b (omega arith))))
+    (by< (⟨ negsuc a ⟩ ⊕ (# h ⊝ # 1)) (⊖ (# n) ⊗ # b ⊕ # b) (omega (arith, near-lo (suc a) b)))
+
+pub half-abs : (z : ℤ) (h : ℕ) → 0 < h → ∣ halfFor z (pos h) ∣ ≤ h
+half-abs (pos n) h l = omega arith
+half-abs (negsuc n) h l =
+    let e : pos h -ℤ pos 1 ≡ pos (h - 1) = by≡ (# h ⊝ # 1) (# (h - 1)) (omega arith) in
+    rw e (omega arith)
 
 -- the sign of 2^15·h + l is that of its floor by 2^15
-half-by : (a b : ℤ) → (a *ℤ pos 32768) ≤ℤ b → b <ℤ (a *ℤ pos 32768 +ℤ pos 32768) → halfFor a ≡ halfFor b
-half-by (pos m) (pos n) l u = refl
-half-by (pos m) (negsuc n) l u = absurd (omega (zarith, bal (# m ⊗ # 32768)))
-half-by (negsuc m) (pos n) l u = absurd (omega (zarith, bal (⟨ negsuc m ⟩ ⊗ # 32768 ⊕ # 32768)))
-half-by (negsuc m) (negsuc n) l u = refl
+half-by : (a b : ℤ) → (a *ℤ pos 32768) ≤ℤ b → b <ℤ (a *ℤ pos 32768 +ℤ pos 32768) → (k : ℤ) → halfFor a k ≡ halfFor b k
+half-by (pos m) (pos n) l u k = refl
+half-by (pos m) (negsuc n) l u k = absurd (omega (zarith, bal (# m ⊗ # 32768)))
+half-by (negsuc m) (pos n) l u k = absurd (omega (zarith, bal (⟨ negsuc m ⟩ ⊗ # 32768 ⊕ # 32768)))
+half-by (negsuc m) (negsuc n) l u k = refl
 
-pub half-same : (h l : ℤ) → halfFor (h +ℤ floorZ l 32768) ≡ halfFor (pos 32768 *ℤ h +ℤ l)
-half-same h l =
+pub half-same : (h l k : ℤ) → halfFor (h +ℤ floorZ l 32768) k ≡ halfFor (pos 32768 *ℤ h +ℤ l) k
+half-same h l k =
     let f = floorZ l 32768 in
     let a = floor-lo l 32768 (omega arith) in
     let b = floor-hi l 32768 (omega arith) in
     half-by (h +ℤ f) (pos 32768 *ℤ h +ℤ l)
     (by≤ ((⟨ h ⟩ ⊕ ⟨ f ⟩) ⊗ # 32768) (# 32768 ⊗ ⟨ h ⟩ ⊕ ⟨ l ⟩) (omega (arith, of≤ (⟨ f ⟩ ⊗ # 32768) ⟨ l ⟩ a)))
-    (by< (# 32768 ⊗ ⟨ h ⟩ ⊕ ⟨ l ⟩) ((⟨ h ⟩ ⊕ ⟨ f ⟩) ⊗ # 32768 ⊕ # 32768) (omega (arith, of< ⟨ l ⟩ (⟨ f ⟩ ⊗ # 32768 ⊕ # 32768) b)))
-
-pub half-abs : (z : ℤ) → ∣ halfFor z ∣ ≤ 536870912
-half-abs (pos n) = omega arith
-half-abs (negsuc n) = omega arith
+    (by< (# 32768 ⊗ ⟨ h ⟩ ⊕ ⟨ l ⟩) ((⟨ h ⟩ ⊕ ⟨ f ⟩) ⊗ # 32768 ⊕ # 32768) (omega (arith, of< ⟨ l ⟩ (⟨ f ⟩ ⊗ # 32768 ⊕ # 32768) b))) k
 
 -- the two steps of the code: the half goes to the low part
-pub R-steps : (h l : ℤ) → floorZ (h +ℤ floorZ (l +ℤ halfFor (h +ℤ floorZ l 32768)) 32768) 32768 ≡ R (pos 32768 *ℤ h +ℤ l) 1073741824
+pub R-steps : (h l : ℤ) → floorZ (h +ℤ floorZ (l +ℤ halfFor (h +ℤ floorZ l 32768) (pos 536870912)) 32768) 32768 ≡ R (pos 32768 *ℤ h +ℤ l) 1073741824
 R-steps h l =
     let z = pos 32768 *ℤ h +ℤ l in
-    ap (λ (x : ℤ). floorZ (h +ℤ floorZ (l +ℤ x) 32768) 32768) (half-same h l)
-    ∙ sym (floor-steps h (l +ℤ halfFor z))
-    ∙ ap (λ (x : ℤ). floorZ x 1073741824) (by≡ (# 32768 ⊗ ⟨ h ⟩ ⊕ (⟨ l ⟩ ⊕ ⟨ halfFor z ⟩)) (# 32768 ⊗ ⟨ h ⟩ ⊕ ⟨ l ⟩ ⊕ ⟨ halfFor z ⟩) (omega arith))
-    ∙ R-floor z
+    ap (λ (x : ℤ). floorZ (h +ℤ floorZ (l +ℤ x) 32768) 32768) (half-same h l (pos 536870912))
+    ∙ sym (floor-steps h (l +ℤ halfFor z (pos 536870912)))
+    ∙ ap (λ (x : ℤ). floorZ x 1073741824) (by≡ (# 32768 ⊗ ⟨ h ⟩ ⊕ (⟨ l ⟩ ⊕ ⟨ halfFor z (pos 536870912) ⟩)) (# 32768 ⊗ ⟨ h ⟩ ⊕ ⟨ l ⟩ ⊕ ⟨ halfFor z (pos 536870912) ⟩) (omega arith))
+    ∙ R-floor z 536870912 (omega arith)
 
 -- R of a number of at most k·b is at most k
 near-size : (a b k : ℕ) → 0 < b → a ≤ k * b → near a b ≤ k

@@ -5,6 +5,7 @@ ghost use mathlib.Core.Path.{_≡_};
 ghost use Prim.Native.Nat.{_+_, _/_, _^_, _<_, _≤_};
 ghost use lib.IntN.{pos, _-ℤ_};
 ghost use lib.Signed.{_≤ℤ_};
+ghost use Rattle.whole.specs.Steps.{halfFor};
 ghost use Rattle.whole.specs.Whole.{P, ∣_∣, near, R, floorZ, line};
 
 // x / b rounded down.
@@ -13,6 +14,14 @@ pub fn floor_div(x: i64, b: i64) -> i64
     ensures { λ r. ⌜ r ≡ floorZ x (P b) ⌝ }
 {
     if x >= 0 { x / b } else { -1 - (-1 - x) / b }
+}
+
+// h, less 1 for a negative number: added before a floor by 2·h, it sends a tie away from zero.
+pub fn half(x: i64, h: i64) -> i64
+    requires { ⌜ pos 1 ≤ℤ h ⌝ }
+    ensures { λ r. ⌜ r ≡ halfFor x h ⌝ }
+{
+    if x < 0 { h - 1 } else { h }
 }
 
 // The whole number nearest to a / b, a half going up.

@@ -1,4 +1,5 @@
 // The products of document 01 that pass 64 bits, each split so that every step fits a word.
+use crate::divide::half;
 use crate::sign::in_range;
 use crate::sign::size;
 use crate::sign::with_sign;
@@ -7,7 +8,6 @@ ghost use Prim.Native.Nat.{_-_, _*_, _/_, _%_, _^_, _<_, _≤_};
 ghost use lib.Dec.{leb};
 ghost use lib.IntN.{pos, _+ℤ_, _-ℤ_, _*ℤ_};
 ghost use Rattle.whole.specs.Whole.{∣_∣, R, floorZ, modZ};
-ghost use Rattle.whole.specs.Steps.{halfFor};
 
 // M of 'Arguments' is 681,644,160,000,000,000 = 2^16·10,401,064,453,125.
 
@@ -84,20 +84,13 @@ fn lower(x: i64) -> i64
     x - upper(x) * 32768
 }
 
-// Half of 2^30, less 1 for a negative number.
-fn half(x: i64) -> i64
-    ensures { λ r. ⌜ r ≡ halfFor x ⌝ }
-{
-    if x < 0 { 536870911 } else { 536870912 }
-}
-
 // R((2^15·high + low) / 2^30), by a floor: the half that is added sends a tie away from zero.
 fn rounded(high: i64, low: i64) -> i64
     requires { ⌜ (∣ high ∣ ≤ 2 ^ 60) × (∣ low ∣ ≤ 2 ^ 60) ⌝ }
     ensures { λ r. ⌜ r ≡ R (pos 32768 *ℤ high +ℤ low) 1073741824 ⌝ }
 {
     let sign = high + upper(low);
-    upper(high + upper(low + half(sign)))
+    upper(high + upper(low + half(sign, 536870912)))
 }
 
 // R((x·c + y·d) / 2^30).

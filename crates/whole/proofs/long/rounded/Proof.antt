@@ -3,7 +3,7 @@ use mathlib.Core.Path.{_≡_, sym, ap, _∙_}
 use Prim.Native.Nat.{_^_}
 use borrow.Author.Needs.{needs}
 use native.Mathlib.Omega.{arith}
-use lib.IntN.{ℤ, _+ℤ_}
+use lib.IntN.{ℤ, pos, _+ℤ_}
 use Rattle.whole.specs.Steps.{halfFor}
 use Rattle.whole.specs.Whole.{floorZ}
 use Rattle.whole.proofs.Linear.{back, ret}
@@ -25,11 +25,11 @@ floor-of-low c = rw (back (c .before .fits .low)) at (c .upper .ensures)
 abbrev sign : tie.After-upper → M
 sign c = high (c .before) ⊞ var (c .upper .result) (2 ^ 45) (rw (floor-of-low c) (floor-abs (c .before .args .low) 32768 (2 ^ 45) (omega arith) (omega arith)))
 
-half-of-sign : (c : tie.After-half) → c .half .result ≡ halfFor (val (sign (c .before)))
-half-of-sign c = rw (is (sign (c .before)) tt) at (c .half .ensures)
+half-of-sign : (c : tie.After-half) → c .half .result ≡ halfFor (val (sign (c .before))) (pos 536870912)
+half-of-sign c = c .half .ensures ∙ ap (λ (z : ℤ). halfFor z (pos 536870912)) (is (sign (c .before)) tt)
 
 abbrev raised : tie.After-half → M
-raised c = low (c .before .before) ⊞ var (c .half .result) 536870912 (rw (half-of-sign c) (half-abs (val (sign (c .before)))))
+raised c = low (c .before .before) ⊞ var (c .half .result) 536870912 (rw (half-of-sign c) (half-abs (val (sign (c .before))) 536870912 (omega arith)))
 
 floor-of-raised : (c : tie.After-upper2) → c .upper2 .result ≡ floorZ (val (raised (c .before))) 32768
 floor-of-raised c = rw (is (raised (c .before)) tt) at (c .upper2 .ensures)
@@ -69,7 +69,7 @@ returns c =
     ∙ rw (is (total (c .before)) tt) at (c .upper3 .ensures)
     ∙ ap (λ (z : ℤ). floorZ (h +ℤ z) 32768) (floor-of-raised (c .before))
     ∙ ap (λ (z : ℤ). floorZ (h +ℤ floorZ (l +ℤ z) 32768) 32768) (half-of-sign (c .before .before))
-    ∙ ap (λ (z : ℤ). floorZ (h +ℤ floorZ (l +ℤ halfFor (h +ℤ z)) 32768) 32768) (floor-of-low (c .before .before .before))
+    ∙ ap (λ (z : ℤ). floorZ (h +ℤ floorZ (l +ℤ halfFor (h +ℤ z) (pos 536870912)) 32768) 32768) (floor-of-low (c .before .before .before))
     ∙ R-steps h l
 
 pub rounded-spec : {M : Type 1} → statement M
