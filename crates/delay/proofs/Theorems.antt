@@ -9,7 +9,6 @@ use borrow.Author.Tests.{ne-eqb}
 use lib.ListN.{length, getD, drop}
 use lib.IntN.{ℤ, pos, negℤ}
 use Rattle.whole.specs.Whole.{∣_∣}
-use Rattle.whole.proofs.Linear.{and-true}
 use Rattle.earth.specs.declared.NumberAnswer.{NumberAnswer}
 use Rattle.earth.specs.declared.time.Epoch.{Epoch}
 use Rattle.earth.specs.Calls.{epochOf}
@@ -19,16 +18,16 @@ use Rattle.sections.specs.Each.{allBelow, firstNot}
 use Rattle.sections.proofs.Search.{below-each, not-all, first-fails}
 use Rattle.session.specs.declared.Pass.{Pass}
 use Rattle.session.specs.Records.{stationBy, sourceBy, passOf}
+use Rattle.wave.proofs.Sizes.{between-size}
+use Rattle.wave.proofs.Swapped.{between-neg, between-same}
 use Rattle.delay.specs.declared.EarthAnswer.{EarthAnswer}
 use Rattle.delay.specs.Calls.{lowest, unless, idOk, hasId, allThere, number, noNumber, delayIn, delayNumber, delayOutcome, orientationOutcome, samplesOf, allCovered, firstValues, sampleIn, samplesNumber, samplesOutcome, samplesRoom}
 use Rattle.delay.specs.Sessions.{covers, earthIn, sampleEpoch}
-use Rattle.delay.proofs.Accepted.{station-by-in}
-use Rattle.delay.proofs.Covered.{earth-in-pole}
+use Rattle.delay.proofs.Accepted.{names-in}
+use Rattle.delay.proofs.Covered.{earth-in-size}
 use Rattle.delay.proofs.Epochs.{sample-ms}
 use Rattle.delay.proofs.Lowest.{lower-zero, unless-zero, days-first, six-fails}
 use Rattle.delay.proofs.Ranges.{asked-in}
-use Rattle.delay.proofs.Sizes.{between-size}
-use Rattle.delay.proofs.Swapped.{between-neg, between-same}
 use Rattle.delay.proofs.Written.{sample-at, fails-at}
 
 -- ---- one value: any two results that a promise allows are equal
@@ -104,9 +103,8 @@ sample-swap s p j = delay-in-swap s (p .station1) (p .station2) (p .source) (sam
 pub delay-in-size : (s : List ℕ) (a b r : ℤ) (e : Epoch) → refusalOf s ≡ 0 → allThere s a b r ≡ true → covers s (e .day) ≡ true → InMs (e .ms) → ∣ delayIn s a b r e ∣ ≤ 130000000000
 unfolding delayIn
 delay-in-size s a b r e h t c m =
-    let p = and-true (hasId s 0 a) (hasId s 0 b && hasId s 1 r) t in
-    let q = and-true (hasId s 0 b) (hasId s 1 r) (p .1) in
-    between-size (stationBy s a) (stationBy s b) (sourceBy s r) (earthIn s e) (station-by-in s h a (p .0)) (station-by-in s h b (q .0)) (earth-in-pole s e h c m)
+    let n = names-in s h a b r t in
+    between-size (stationBy s a) (stationBy s b) (sourceBy s r) (earthIn s e) (n .0) (n .1) (earth-in-size s e h c m)
 
 -- what it says that a call of `delay` is not refused
 delay-clear : (s : List ℕ) (a b r day ms : ℤ) → delayNumber s a b r day ms ≡ 0 → (refusalOf s ≡ 0) × (allThere s a b r ≡ true) × (covers s day ≡ true) × InMs ms

@@ -15,8 +15,9 @@ use Rattle.sections.specs.Each.{allBelow}
 use Rattle.sections.specs.File.{refusalOf, countOf}
 use Rattle.session.specs.Records.{stationBy, sourceBy, placeBy, passOf}
 use Rattle.delay.specs.declared.EarthAnswer.{EarthAnswer}
-use Rattle.delay.specs.declared.values.Earth.{Earth}
-use Rattle.delay.specs.Sessions.{delayBetween, covers, earthIn, sampleEpoch}
+use Rattle.wave.specs.declared.values.Earth.{Earth}
+use Rattle.wave.specs.Delays.{delayBetween}
+use Rattle.delay.specs.Sessions.{covers, earthIn, sampleEpoch}
 
 -- "The lowest number that applies is given": of two numbers, where 0 is no refusal; and of a list.
 abbrev pub lowerOf : ℕ → ℕ → ℕ
