@@ -3,10 +3,9 @@ use mathlib.Core.Path.{_≡_, refl, sym, subst}
 use mathlib.Core.Bool.{true, _&&_}
 use mathlib.Core.List.{List}
 use Prim.Native.Nat.{ℕ, _≤_, _<_}
-use native.Mathlib.Nat.{le-trans}
 use native.Mathlib.Omega.{arith}
 use borrow.Author.Tests.{ltb-true}
-use lib.Dec.{ltb, lit≤}
+use lib.Dec.{ltb}
 use lib.IntN.{ℤ, pos, negℤ}
 use Rattle.whole.specs.Whole.{P, N, ∣_∣}
 use Rattle.whole.proofs.Linear.{In, and-true}
@@ -19,7 +18,7 @@ use Rattle.session.specs.declared.Pass.{Pass}
 use Rattle.session.specs.Records.{stationOf, sourceOf, dayOf, passOf, placeBy, stationBy, sourceBy, dayBy}
 use Rattle.session.proofs.Laws.{Natural, StationRanges, SourceRanges, DayRanges, PassRanges, station-ranges, source-ranges, day-ranges, pass-ranges, station-by, source-by, day-by, place-has}
 use Rattle.wave.specs.Bounds.{InTick, InRecord, InStation, InSource}
-use Rattle.wave.specs.DayValues.{ut1rOf}
+use Rattle.wave.proofs.DayLaws.{ut1r-size}
 use Rattle.delay.specs.Bounds.{InPass}
 use Rattle.delay.specs.Calls.{hasId, allThere}
 
@@ -40,8 +39,7 @@ source-in : (r : Source) → SourceRanges r → InSource r
 source-in r h = record { ascension = natural-tick (r .«right_ascension») (natural-in (h .right-ascension)); declined = size-tick (r .declination) (h .declination) }
 
 day-in : (r : Day) → DayRanges r → InRecord r
-unfolding ut1rOf
-day-in r h = record { x-size = h .x; y-size = h .y; ut1-size = le-trans (h .ut1-utc) (lit≤ tt); tai = natural-in (h .tai-utc) }
+day-in r h = record { x-size = h .x; y-size = h .y; ut1-size = ut1r-size r (h .ut1-utc); tai = natural-in (h .tai-utc) }
 
 module _ (s : List ℕ) (accepted : refusalOf s ≡ 0) where
   pub pass-in : (i : ℕ) → i < countOf s 3 → InPass (passOf s i)

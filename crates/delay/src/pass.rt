@@ -32,38 +32,14 @@ fn sample_epoch(p: Pass, i: usize) -> Epoch
     start.later(n * p.step)
 }
 
-// Whether the file covers a day, asked only where the day is not one that is known to be covered.
-fn covers_too(s: &[u8], known: i64, day: i64) -> bool
-    requires { ⌜ (refusalOf (now s) ≡ 0) × (∣ day ∣ ≤ 1000000) × (covers (now s) known ≡ true) ⌝ }
-    ensures { λ r. ⌜ r ≡ covers (now (s .entry)) day ⌝ }
-{
-    if day == known {
-        return true;
-    }
-    covers(s, day)
-}
-
-// Whether the file covers every sample's epoch.
+// Whether the file covers every sample's epoch. Its days follow one another, so that the first sample and the last tell.
 pub fn all_covered(s: &[u8], p: Pass) -> bool
     requires { ⌜ (refusalOf (now s) ≡ 0) × InPass p ⌝ }
     ensures { λ r. ⌜ r ≡ allCovered (now (s .entry)) p ⌝ }
 {
     let n = p.samples as usize;
-    let mut known = p.mjd;
-    if !covers(s, known) {
-        return false;
-    }
-    let mut i: usize = 0;
-    while i < n {
-        let e = sample_epoch(p, i);
-        let day = e.day;
-        if !covers_too(s, known, day) {
-            return false;
-        }
-        known = day;
-        i += 1;
-    }
-    true
+    let last = sample_epoch(p, n - 1);
+    covers(s, p.mjd) && covers(s, last.day)
 }
 
 // The samples of a pass along its sight, written from the start of the room.

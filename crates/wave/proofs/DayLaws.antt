@@ -31,6 +31,11 @@ ms-day {u} h = omega (zarith, ms-hi h)
 pub between-size : (v0 v1 u : ℤ) (k : ℕ) → InMs u → ∣ v0 ∣ ≤ k → ∣ v1 ∣ ≤ k → ∣ line v0 v1 u ∣ ≤ k
 between-size v0 v1 u k h a b = line-size v0 v1 u k (ms-lo h) (ms-day h) a b
 
+-- the UT1R that a record gives, by the range of its field
+pub ut1r-size : (r : Day) → ∣ r .«ut1_utc» ∣ ≤ 900000000 → ∣ ut1rOf r ∣ ≤ 902723000
+unfolding ut1rOf
+ut1r-size r h = le-trans h (lit≤ tt)
+
 -- where TAI-UTC stays the same the line goes from one record's UT1R to the next's
 pub ut1-same : (r0 r1 : Day) (u : ℤ) → r0 .«tai_utc» ≡ r1 .«tai_utc» → ut1Line r0 r1 u ≡ line (ut1rOf r0) (ut1rOf r1) u
 unfolding ut1Line

@@ -27,7 +27,7 @@ use Rattle.delay.specs.Calls.{allThere, allCovered, samplesOf, firstValu
 use Rattle.delay.specs.Keeping.{namedBy, delayAt}
 use Rattle.delay.specs.Sessions.{earthIn, sampleEpoch}
 use Rattle.delay.proofs.Accepted.{pass-in, names-in}
-use Rattle.delay.proofs.Epochs.{samples-count, samples-back, samples-cast}
+use Rattle.delay.proofs.Epochs.{samples-count, samples-back, samples-read, samples-cast}
 use Rattle.delay.proofs.Lowest.{file-first, index-first, pass-names-first, days-first}
 use Rattle.delay.proofs.Written.{room-length}
 use Rattle.delay.proofs.samples.Statement.{statement}
@@ -215,7 +215,7 @@ module _ (c : tie.Else4) where
   taken-in = rw (pass-is e3) (in-pass q4)
 
   count-is : natAbs (toZ w64 (ofZ w64 (taken .samples))) ≡ samplesOf (pass q4)
-  count-is = ap natAbs (samples-back taken taken-in) ∙ ap samplesOf (pass-is e3)
+  count-is = samples-read taken taken-in ∙ ap samplesOf (pass-is e3)
 
   some : 1 ≤ samplesOf (pass q4)
   some = samples-count (pass q4) (in-pass q4) .0

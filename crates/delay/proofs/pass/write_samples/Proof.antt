@@ -19,7 +19,7 @@ use Rattle.delay.specs.Bounds.{InPass}
 use Rattle.delay.specs.Calls.{samplesOf, allCovered, firstValues}
 use Rattle.delay.specs.Keeping.{TrueKept, delayAt}
 use Rattle.delay.specs.Sessions.{covers, sampleEpoch}
-use Rattle.delay.proofs.Epochs.{samples-count, samples-back, samples-cast, mjd-small, sample-ms}
+use Rattle.delay.proofs.Epochs.{samples-count, samples-read, samples-cast, mjd-small, sample-ms}
 use Rattle.delay.proofs.Written.{room-length, value-next}
 use Rattle.delay.proofs.pass.write_samples.Statement.{statement}
 use Rattle.delay.proofs.pass.write_samples.Tie as tie
@@ -33,9 +33,6 @@ Inv-loop s p v room₀ n kept₀ i₀ room kept i = (i ≤ n) × (room ≡ first
 
 abbrev μ-loop : tie.MeasureT-loop
 μ-loop s p v room₀ n kept₀ i₀ room kept i = n - i
-
-bound : (p : Pass) → InPass p → natAbs (toZ w64 (ofZ w64 (p .samples))) ≡ samplesOf p
-bound p h = ap natAbs (samples-back p h)
 
 cast-n : tie.Need-cast-n Inv-loop μ-loop
 cast-n c = let s = c .before .before .before in samples-cast (s .args .p) (s .pre .0 .1)
@@ -55,7 +52,7 @@ module _ (c : tie.In-loop Inv-loop μ-loop) where
   i = c .before .loop .i
 
   within : i < samplesOf (start .args .p)
-  within = rw (bound (start .args .p) (start .pre .0 .1)) at (c .loop-test .taken)
+  within = rw (samples-read (start .args .p) (start .pre .0 .1)) at (c .loop-test .taken)
 
   few : i < 4096
   few = let h = samples-count (start .args .p) (start .pre .0 .1) .1 in let l = within in omega arith
@@ -124,7 +121,7 @@ module _ (c : tie.After-loop Inv-loop μ-loop) where
   done =
       let h = c .before .loop .inv .0 in
       let k = c .loop-test .left in
-      omega (arith, bound (entry .args .p) (entry .pre .0 .1))
+      omega (arith, samples-read (entry .args .p) (entry .pre .0 .1))
 
 same-length : tie.Need-same-length Inv-loop μ-loop
 same-length c =
