@@ -1,5 +1,5 @@
 -- What it gives that an accepted file covers a day, or two days. Assumes nothing.
-use mathlib.Core.Path.{_≡_, sym, ap, _∙_}
+use mathlib.Core.Path.{_≡_, refl, sym, ap, subst, _∙_}
 use mathlib.Core.Bool.{Bool, true, _&&_}
 use mathlib.Core.List.{List}
 use Prim.Native.Nat.{ℕ, _+_, _-_, _≤_, _<_}
@@ -21,12 +21,15 @@ use Rattle.sections.specs.Each.{allBelow}
 use Rattle.sections.specs.File.{refusalOf, countOf, fieldAt}
 use Rattle.sections.proofs.Search.{and-yes, same-test, below-each, below-all}
 use Rattle.session.specs.declared.Pass.{Pass}
-use Rattle.session.specs.Records.{placeBy, dayBy}
+use Rattle.session.specs.Records.{placeBy}
 use Rattle.session.proofs.Laws.{place-has, day-plus, day-place}
 use Rattle.wave.specs.Bounds.{InRecord, InEarth}
+use Rattle.wave.specs.DayValues.{earthOf}
 use Rattle.wave.proofs.DayLaws.{earth-size}
+use Rattle.delay.specs.declared.records.Days.{Days}
 use Rattle.delay.specs.Bounds.{InPass}
 use Rattle.delay.specs.Calls.{samplesOf, allCovered}
+use Rattle.delay.specs.Keeping.{daysFrom}
 use Rattle.delay.specs.Sessions.{hasDay, covers, earthIn, sampleEpoch}
 use Rattle.delay.proofs.Accepted.{day-by-in, has-day-in}
 use Rattle.delay.proofs.Epochs.{samples-count, sample-days, first-day}
@@ -45,16 +48,23 @@ module _ (s : List ℕ) (d : ℤ) (accepted : refusalOf s ≡ 0) (c : covers s d
   pub day-back : toZ w64 (ofZ w64 d) ≡ d
   day-back = is (var d 1000000 day-small) tt
 
-  pub today-in : InRecord (dayBy s d)
-  today-in = day-by-in s accepted d (both .0)
+-- the records of an epoch's day and of the next, once they were read
+module _ (s : List ℕ) (e : Epoch) (accepted : refusalOf s ≡ 0) (c : covers s (e .day) ≡ true) (d : Days) (are : d ≡ daysFrom s (e .day)) where
+  pub today-in : InRecord (d .today)
+  today-in = subst (λ (x : Days). InRecord (x .today)) (sym are) (day-by-in s accepted (e .day) (both s (e .day) accepted c .0))
 
-  pub next-in : InRecord (dayBy s (d +ℤ pos 1))
-  next-in = day-by-in s accepted (d +ℤ pos 1) (both .1)
+  pub next-in : InRecord (d .next)
+  next-in = subst (λ (x : Days). InRecord (x .next)) (sym are) (day-by-in s accepted (e .day +ℤ pos 1) (both s (e .day) accepted c .1))
+
+  pub earth-by : earthOf (d .today) (d .next) e ≡ earthIn s e
+  unfolding earthIn
+  earth-by = ap (λ (x : Days). earthOf (x .today) (x .next) e) are
 
 -- the earth at an epoch that is covered
 pub earth-in-size : (s : List ℕ) (e : Epoch) → refusalOf s ≡ 0 → covers s (e .day) ≡ true → InMs (e .ms) → InEarth (earthIn s e)
-unfolding earthIn
-earth-in-size s e h c m = earth-size (dayBy s (e .day)) (dayBy s (e .day +ℤ pos 1)) e (today-in s (e .day) h c) (next-in s (e .day) h c) m
+earth-in-size s e h c m =
+    let d = daysFrom s (e .day) in
+    subst InEarth (earth-by s e h c d refl) (earth-size (d .today) (d .next) e (today-in s e h c d refl) (next-in s e h c d refl) m)
 
 -- ---- the file's days follow one another: between two that are covered each day is
 module _ (s : List ℕ) (accepted : refusalOf s ≡ 0) where

@@ -3,23 +3,20 @@ use mathlib.Core.Path.{_≡_, refl, sym, ap, subst, _∙_}
 use mathlib.Core.List.{List}
 use Prim.Native.Nat.{ℕ}
 use borrow.Author.Needs.{needs}
-use lib.IntN.{ℤ, pos, _+ℤ_}
+use lib.IntN.{ℤ}
 use mir.Syntax.{w64}
 use mir.Val.{toZ, ofZ}
 use Rattle.whole.proofs.Linear.{ret}
 use Rattle.whole.proofs.Machine.{var, is}
-use Rattle.earth.specs.Minutes.{minutesOf}
 use Rattle.earth.specs.TideInUT1.{tideAt, tideOf}
-use Rattle.session.specs.Records.{dayBy}
-use Rattle.wave.specs.declared.values.Earth.{Earth}
 use Rattle.wave.specs.declared.values.Minute.{Minute}
-use Rattle.wave.specs.DayValues.{earthOf}
+use Rattle.wave.specs.Bounds.{InRecord}
 use Rattle.wave.specs.Keeping.{TrueMinute, delaySeen}
 use Rattle.wave.proofs.DayLaws.{tide-size}
 use Rattle.delay.specs.declared.records.Days.{Days}
 use Rattle.delay.specs.Keeping.{daysFrom, delayAt}
 use Rattle.delay.specs.Sessions.{earthIn}
-use Rattle.delay.proofs.Covered.{day-in, day-small, day-back, today-in, next-in}
+use Rattle.delay.proofs.Covered.{day-in, day-small, day-back, today-in, next-in, earth-by}
 use Rattle.delay.proofs.keep.sample_at.Statement.{statement}
 use Rattle.delay.proofs.keep.sample_at.Tie as tie
 
@@ -42,17 +39,17 @@ module _ (c : tie.After-days-at) where
   days-are : c .days-at .result ≡ daysFrom (file start) (day start)
   days-are = c .days-at .ensures ∙ ap (daysFrom (file start)) (day-back (file start) (day start) (start .pre .0 .0) (start .pre .1 .0))
 
-  today-is : c .days-at .result .today ≡ dayBy (file start) (day start)
-  today-is = ap (λ (d : Days). d .today) days-are
+  today : InRecord (c .days-at .result .today)
+  today = today-in (file start) (start .args .e) (start .pre .0 .0) (start .pre .1 .0) (c .days-at .result) days-are
 
-  next-is : c .days-at .result .next ≡ dayBy (file start) (day start +ℤ pos 1)
-  next-is = ap (λ (d : Days). d .next) days-are
+  next : InRecord (c .days-at .result .next)
+  next = next-in (file start) (start .args .e) (start .pre .0 .0) (start .pre .1 .0) (c .days-at .result) days-are
 
 minutes-by-requires : tie.Need-minutes-by-requires
 minutes-by-requires c κs =
     let k = c .before .before in
     let s = start k in
-    (rw (today-is k) (today-in (file s) (day s) (s .pre .0 .0) (s .pre .1 .0)), day-in (file s) (day s) (s .pre .0 .0) (s .pre .1 .0), s .pre .1 .1)
+    (today k, day-in (file s) (day s) (s .pre .0 .0) (s .pre .1 .0), s .pre .1 .1)
 
 n-back : (c : tie.After-minutes-by) → toZ w64 (ofZ w64 (c .minutes-by .result)) ≡ c .minutes-by .result
 n-back c = ret (c .minutes-by .result) (c .minutes-by .ok)
@@ -77,16 +74,14 @@ module _ (c : tie.After-minute-at) where
 earth-at-requires : tie.Need-earth-at-requires
 earth-at-requires c κs =
     let m = c .before in
-    let t = s m in (
-      (rw (today-is (k m)) (today-in (file t) (day t) (t .pre .0 .0) (t .pre .1 .0)), rw (next-is (k m)) (next-in (file t) (day t) (t .pre .0 .0) (t .pre .1 .0)), day-in (file t) (day t) (t .pre .0 .0) (t .pre .1 .0), t .pre .1 .1),
-      tide-back m ∙ tide-is m,
-    )
+    let t = s m in
+    ((today (k m), next (k m), day-in (file t) (day t) (t .pre .0 .0) (t .pre .1 .0), t .pre .1 .1), tide-back m ∙ tide-is m)
 
 earth-is : (c : tie.After-earth-at) → c .earth-at .result ≡ earthIn (file (s (c .before .before))) (s (c .before .before) .args .e)
-unfolding earthIn
 earth-is c =
     let m = c .before .before in
-    c .earth-at .ensures .0 ∙ ap (λ (d : Days). earthOf (d .today) (d .next) (s m .args .e)) (days-are (k m))
+    let t = s m in
+    c .earth-at .ensures .0 ∙ earth-by (file t) (t .args .e) (t .pre .0 .0) (t .pre .1 .0) (k m .days-at .result) (days-are (k m))
 
 delay-seen-requires : tie.Need-delay-seen-requires
 delay-seen-requires c κs = search needs

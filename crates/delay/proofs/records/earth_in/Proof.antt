@@ -2,19 +2,14 @@
 use mathlib.Core.Path.{_≡_, ap, _∙_}
 use mathlib.Core.List.{List}
 use Prim.Native.Nat.{ℕ}
-use lib.IntN.{ℤ, pos, _+ℤ_}
+use lib.IntN.{ℤ}
 use mir.Syntax.{w64}
 use mir.Val.{toZ, ofZ}
 use Rattle.whole.proofs.Linear.{ret}
-use Rattle.earth.specs.declared.time.Epoch.{Epoch}
 use Rattle.earth.specs.TideInUT1.{tideAt, tideOf}
-use Rattle.session.specs.declared.Day.{Day}
-use Rattle.session.specs.Records.{dayBy}
-use Rattle.wave.specs.DayValues.{earthOf}
-use Rattle.delay.specs.declared.records.Days.{Days}
+use Rattle.wave.specs.Bounds.{InRecord}
 use Rattle.delay.specs.Keeping.{daysFrom}
-use Rattle.delay.specs.Sessions.{earthIn}
-use Rattle.delay.proofs.Covered.{day-in, day-small, day-back, today-in, next-in}
+use Rattle.delay.proofs.Covered.{day-in, day-small, day-back, today-in, next-in, earth-by}
 use Rattle.delay.proofs.records.earth_in.Statement.{statement}
 use Rattle.delay.proofs.records.earth_in.Tie as tie
 
@@ -37,17 +32,17 @@ module _ (c : tie.After-days-from) where
   days-are : c .days-from .result ≡ daysFrom (file start) (day start)
   days-are = c .days-from .ensures ∙ ap (daysFrom (file start)) (day-back (file start) (day start) (start .pre .0) (start .pre .1))
 
-  today-is : c .days-from .result .today ≡ dayBy (file start) (day start)
-  today-is = ap (λ (d : Days). d .today) days-are
+  today : InRecord (c .days-from .result .today)
+  today = today-in (file start) (start .args .e) (start .pre .0) (start .pre .1) (c .days-from .result) days-are
 
-  next-is : c .days-from .result .next ≡ dayBy (file start) (day start +ℤ pos 1)
-  next-is = ap (λ (d : Days). d .next) days-are
+  next : InRecord (c .days-from .result .next)
+  next = next-in (file start) (start .args .e) (start .pre .0) (start .pre .1) (c .days-from .result) days-are
 
 minutes-by-requires : tie.Need-minutes-by-requires
 minutes-by-requires c κs =
     let k = c .before .before in
     let s = start k in
-    (rw (today-is k) (today-in (file s) (day s) (s .pre .0) (s .pre .1)), day-in (file s) (day s) (s .pre .0) (s .pre .1), s .pre .2)
+    (today k, day-in (file s) (day s) (s .pre .0) (s .pre .1), s .pre .2)
 
 n-back : (c : tie.After-minutes-by) → toZ w64 (ofZ w64 (c .minutes-by .result)) ≡ c .minutes-by .result
 n-back c = ret (c .minutes-by .result) (c .minutes-by .ok)
@@ -61,16 +56,15 @@ earth-at-requires c κs =
     let n = c .before in
     let k = n .before .before .before in
     let s = start k in (
-      (rw (today-is k) (today-in (file s) (day s) (s .pre .0) (s .pre .1)), rw (next-is k) (next-in (file s) (day s) (s .pre .0) (s .pre .1)), day-in (file s) (day s) (s .pre .0) (s .pre .1), s .pre .2),
+      (today k, next k, day-in (file s) (day s) (s .pre .0) (s .pre .1), s .pre .2),
       ret (c .tide-at-minute .result) (c .tide-at-minute .ok) ∙ c .tide-at-minute .ensures ∙ ap tideAt (n-back n ∙ n .minutes-by .ensures .0),
     )
 
 returns : tie.Need-returns
-unfolding earthIn
 returns c =
     let k = c .before .before .before .before .before in
-    let e = start k .args .e in
-    (c .earth-at .ensures .0 ∙ ap (λ (d : Days). earthOf (d .today) (d .next) e) (days-are k), c .earth-at .ensures .1)
+    let s = start k in
+    (c .earth-at .ensures .0 ∙ earth-by (file s) (s .args .e) (s .pre .0) (s .pre .1) (k .days-from .result) (days-are k), c .earth-at .ensures .1)
 
 pub earth-in-spec : {M : Type 1} → statement M
 earth-in-spec =
