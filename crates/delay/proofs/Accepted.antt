@@ -1,22 +1,21 @@
 -- What the delays lean on of a file that is accepted: each field that they read is in its range. Assumes nothing.
-use mathlib.Core.Path.{_≡_, refl, sym, subst}
+use mathlib.Core.Path.{_≡_, sym, subst}
 use mathlib.Core.Bool.{true, _&&_}
 use mathlib.Core.List.{List}
 use Prim.Native.Nat.{ℕ, _≤_, _<_}
 use native.Mathlib.Omega.{arith}
 use borrow.Author.Tests.{ltb-true}
 use lib.Dec.{ltb}
-use lib.IntN.{ℤ, pos, negℤ}
-use Rattle.whole.specs.Whole.{P, N, ∣_∣}
+use lib.IntN.{ℤ, pos}
+use Rattle.whole.specs.Whole.{∣_∣}
 use Rattle.whole.proofs.Linear.{In, and-true}
 use Rattle.earth.specs.Ranges.{InDay}
-use Rattle.sections.specs.File.{refusalOf, countOf, fieldAt}
+use Rattle.sections.specs.File.{refusalOf, countOf}
 use Rattle.session.specs.declared.Station.{Station}
 use Rattle.session.specs.declared.Source.{Source}
 use Rattle.session.specs.declared.Day.{Day}
-use Rattle.session.specs.declared.Pass.{Pass}
 use Rattle.session.specs.Records.{stationOf, sourceOf, dayOf, passOf, placeBy, stationBy, sourceBy, dayBy}
-use Rattle.session.proofs.Laws.{Natural, StationRanges, SourceRanges, DayRanges, PassRanges, station-ranges, source-ranges, day-ranges, pass-ranges, station-by, source-by, day-by, place-has}
+use Rattle.session.proofs.Laws.{Natural, StationRanges, SourceRanges, DayRanges, station-ranges, source-ranges, day-ranges, pass-ranges, station-by, source-by, day-by, place-has}
 use Rattle.wave.specs.Bounds.{InTick, InRecord, InStation, InSource}
 use Rattle.wave.proofs.DayLaws.{ut1r-size}
 use Rattle.delay.specs.Bounds.{InPass}

@@ -1,7 +1,7 @@
 -- Laws of a pass's epochs. Assumes nothing.
-use mathlib.Core.Path.{_≡_, refl, ap, subst, _∙_}
+use mathlib.Core.Path.{_≡_, ap, subst, _∙_}
 use Prim.Native.Nat.{ℕ, _+_, _*_, _≤_, _<_}
-use native.Mathlib.Nat.{le-trans, mul-le-mul, add-zero}
+use native.Mathlib.Nat.{le-trans, mul-le-mul}
 use native.Mathlib.Omega.{arith}
 use lib.Dec.{lit≤}
 use lib.IntN.{ℤ, pos, negsuc, natAbs, _+ℤ_, _*ℤ_}
@@ -10,11 +10,11 @@ use lib.Signed.{_≤ℤ_, nonNeg}
 use mir.Syntax.{w64}
 use mir.Val.{Fits, toZ, ofZ}
 use Rattle.whole.proofs.Machine.{var, is}
-use Rattle.whole.specs.Whole.{P, N, ∣_∣, floorZ, modZ}
-use Rattle.whole.proofs.Linear.{zarith, In, in-le, parts-le, abs-add, abs-mul≤, mul-P, mul-N, add-law}
+use Rattle.whole.specs.Whole.{P, N, ∣_∣, floorZ}
+use Rattle.whole.proofs.Linear.{zarith, In, parts-le, abs-add, mul-P, mul-N, add-law}
 use Rattle.whole.proofs.Rounding.{mod-below, floor-abs, floor-unique}
 use Rattle.whole.proofs.Quote.{⟨_⟩, #, _⊕_, _⊗_, by≡, by≤, by<}
-use Rattle.earth.specs.Ranges.{InDay, InMs, InAdd}
+use Rattle.earth.specs.Ranges.{InMs, InAdd}
 use Rattle.earth.specs.declared.time.Epoch.{Epoch}
 use Rattle.earth.specs.Epoch.{laterOf}
 use Rattle.earth.proofs.Epochs.{later-ms, later-twice, later-day}

@@ -1,7 +1,7 @@
 -- What is proved of the outcomes of the calls `orientation`, `delay` and `samples`. Assumes nothing.
 use mathlib.Core.Path.{_≡_, refl, sym, ap, _∙_}
 use mathlib.Core.Bool.{Bool, true, false, _&&_, cond}
-use mathlib.Core.List.{List, [], _∷_, _++_}
+use mathlib.Core.List.{List, [], _∷_}
 use Prim.Native.Nat.{ℕ, zero, suc, _≤_, _<_}
 use native.Mathlib.Omega.{arith}
 use lib.Dec.{eqb, leb, ltb}
@@ -21,7 +21,7 @@ use Rattle.session.specs.Records.{stationBy, sourceBy, passOf}
 use Rattle.wave.proofs.Sizes.{between-size}
 use Rattle.wave.proofs.Swapped.{between-neg, between-same}
 use Rattle.delay.specs.declared.EarthAnswer.{EarthAnswer}
-use Rattle.delay.specs.Calls.{lowest, unless, idOk, hasId, allThere, number, noNumber, delayIn, delayNumber, delayOutcome, orientationOutcome, samplesOf, allCovered, firstValues, sampleIn, samplesNumber, samplesOutcome, samplesRoom}
+use Rattle.delay.specs.Calls.{lowest, unless, idOk, hasId, allThere, number, noNumber, delayIn, delayNumber, delayOutcome, orientationOutcome, samplesOf, allCovered, sampleIn, samplesNumber, samplesOutcome, samplesRoom}
 use Rattle.delay.specs.Sessions.{covers, earthIn, sampleEpoch}
 use Rattle.delay.proofs.Accepted.{names-in}
 use Rattle.delay.proofs.Covered.{earth-in-size}

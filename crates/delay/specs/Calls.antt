@@ -1,9 +1,9 @@
 -- The three public calls: what each returns and leaves in the room lent, for every input. Document 01, 'Refusal numbers'.
 use Prim.Native.Nat.{ℕ, zero, suc, _+_, min}
 use mathlib.Core.Bool.{Bool, true, false, _&&_, cond}
-use mathlib.Core.List.{List, [], _∷_, _++_, map}
+use mathlib.Core.List.{List, [], _∷_, _++_}
 use lib.ListN.{length, drop}
-use lib.IntN.{ℤ, pos, natAbs, _+ℤ_}
+use lib.IntN.{ℤ, pos, natAbs}
 use lib.Dec.{leb, ltb, eqb}
 use lib.Signed.{leZ}
 use Rattle.earth.specs.declared.time.Epoch.{Epoch}

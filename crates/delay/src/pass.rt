@@ -10,8 +10,6 @@ ghost use mathlib.Core.Bool.{true};
 ghost use mathlib.Core.List.{_++_};
 ghost use Prim.Native.Nat.{ℕ, _<_, _≤_};
 ghost use lib.ListN.{length, drop};
-ghost use Rattle.whole.specs.Whole.{∣_∣};
-ghost use Rattle.earth.specs.Ranges.{InMs};
 ghost use Rattle.sections.specs.File.{refusalOf};
 ghost use Rattle.wave.specs.Bounds.{InSight};
 ghost use Rattle.delay.specs.Bounds.{InPass};

@@ -1,16 +1,16 @@
 -- Laws of the day values: what a caller may lean on, whatever the line of UT1-UTC is. Assumes nothing.
 use mathlib.Core.Path.{_≡_, refl, ap, _∙_}
-use Prim.Native.Nat.{ℕ, _+_, _≤_, _<_, _^_}
+use Prim.Native.Nat.{ℕ, _+_, _≤_, _<_}
 use native.Mathlib.Nat.{le-trans}
 use native.Mathlib.Omega.{arith}
 use lib.Dec.{lit≤}
-use lib.IntN.{ℤ, pos, negℤ, _+ℤ_, _-ℤ_, _*ℤ_}
+use lib.IntN.{ℤ, pos, _+ℤ_, _-ℤ_, _*ℤ_}
 use lib.Signed.{_≤ℤ_}
-use Rattle.whole.specs.Whole.{P, N, ∣_∣, R, line, floorZ}
-use Rattle.whole.proofs.Linear.{zarith, In, parts-le, abs-add, abs-sub, le-parts, in-le}
-use Rattle.whole.proofs.Quote.{⟨_⟩, #, _⊕_, _⊝_, _⊗_, ⊖, by≡, by≤, by<, of≤, of<, bal}
+use Rattle.whole.specs.Whole.{∣_∣, R, line, floorZ}
+use Rattle.whole.proofs.Linear.{zarith, parts-le, abs-add, in-le}
+use Rattle.whole.proofs.Quote.{⟨_⟩, #, _⊕_, _⊝_, _⊗_, ⊖, by≡, by≤, of≤, of<}
 use Rattle.whole.proofs.Rounding.{line-size, floor-lo, floor-hi}
-use Rattle.earth.specs.Ranges.{InMs, InF, InDay}
+use Rattle.earth.specs.Ranges.{InMs, InF}
 use Rattle.earth.specs.declared.time.Epoch.{Epoch}
 use Rattle.earth.specs.TideInUT1.{tideOf}
 use Rattle.earth.proofs.TideInUT1.{tide-most}

@@ -1,13 +1,12 @@
 -- How large P, G and a delay can be. Assumes nothing.
-use mathlib.Core.Path.{_≡_}
-use Prim.Native.Nat.{ℕ, _+_, _*_, _^_, _≤_}
+use Prim.Native.Nat.{ℕ, _^_, _≤_}
 use native.Mathlib.Nat.{le-trans}
 use native.Mathlib.Omega.{arith}
 use lib.Dec.{lit≤}
-use lib.IntN.{ℤ, pos, negℤ, _+ℤ_, _-ℤ_, _*ℤ_}
-use Rattle.whole.specs.Whole.{∣_∣, P, N, R}
+use lib.IntN.{ℤ, pos, negℤ}
+use Rattle.whole.specs.Whole.{∣_∣, R}
 use Rattle.whole.proofs.Linear.{P-neg, N-neg}
-use Rattle.whole.proofs.Machine.{M, lit, var, _⊞_, _⊟_, _⊠_, val, bounded}
+use Rattle.whole.proofs.Machine.{lit, var, _⊞_, _⊟_, _⊠_, val, bounded}
 use Rattle.whole.proofs.Rounding.{R-size}
 use Rattle.sine.specs.Sine.{sineOf, cosineOf}
 use Rattle.sine.proofs.Laws.{sine-size, cosine-size}

@@ -1,15 +1,12 @@
 -- Exchanging the two stations negates every delay, exactly: every rounding of document 01 is symmetric. Assumes nothing.
-use mathlib.Core.Path.{_≡_, refl, sym, ap, _∙_}
-use mathlib.Core.Bool.{Bool, true, false, _&&_}
-use mathlib.Core.List.{List, [], _∷_}
+use mathlib.Core.Path.{_≡_, ap, _∙_}
 use Prim.Native.Nat.{ℕ, _^_}
 use native.Mathlib.Omega.{arith}
-use lib.IntN.{ℤ, pos, negsuc, negℤ, _+ℤ_, _-ℤ_, _*ℤ_}
+use lib.IntN.{ℤ, pos, negℤ, _+ℤ_, _-ℤ_, _*ℤ_}
 use Rattle.whole.specs.Whole.{R}
 use Rattle.whole.proofs.Linear.{zarith, P-neg, N-neg}
 use Rattle.whole.proofs.Quote.{⟨_⟩, #, _⊕_, _⊝_, _⊗_, ⊖, by≡}
 use Rattle.whole.proofs.Rounding.{R-neg}
-use Rattle.earth.specs.declared.time.Epoch.{Epoch}
 use Rattle.session.specs.declared.Station.{Station}
 use Rattle.session.specs.declared.Source.{Source}
 use Rattle.sine.specs.Sine.{sineOf, cosineOf}

@@ -1,5 +1,5 @@
 -- How large the numbers of a delay can be: what the code asks of its inputs, by the ranges of document 01's fields.
-use Prim.Native.Nat.{ℕ, _^_, _≤_}
+use Prim.Native.Nat.{_^_, _≤_}
 use lib.IntN.{ℤ, pos, negℤ}
 use Rattle.whole.proofs.Linear.{In}
 use Rattle.whole.specs.Whole.{∣_∣}

@@ -1,5 +1,4 @@
 -- Document 01, 'Day values' and 'Rotation angle': what an epoch's two orientation records give at the epoch.
-use Prim.Native.Nat.{ℕ}
 use lib.IntN.{ℤ, pos, _+ℤ_, _*ℤ_}
 use Rattle.whole.specs.Whole.{line, floorZ}
 use Rattle.earth.specs.declared.time.Epoch.{Epoch}

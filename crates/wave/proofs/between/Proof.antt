@@ -1,5 +1,4 @@
 -- `wave::between` meets its contract.
-use mathlib.Core.Path.{_≡_}
 use Rattle.whole.proofs.Machine.{M, var, _⊟_, bounded, ok, is}
 use Rattle.wave.specs.Delays.{baselineOf}
 use Rattle.wave.proofs.between.Statement.{statement}

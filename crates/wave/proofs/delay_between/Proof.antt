@@ -1,5 +1,5 @@
 -- `wave::delay_between` meets its contract.
-use mathlib.Core.Path.{_≡_, ap, _∙_}
+use mathlib.Core.Path.{ap, _∙_}
 use borrow.Author.Needs.{needs}
 use Rattle.whole.proofs.Linear.{ret}
 use Rattle.wave.specs.declared.Sight.{Sight}

@@ -1,5 +1,5 @@
 -- `delay::keep::days_at` meets its contract.
-use mathlib.Core.Path.{_≡_, ap, _∙_}
+use mathlib.Core.Path.{ap, _∙_}
 use borrow.Author.Needs.{needs}
 use Rattle.whole.proofs.Linear.{back, bits-eq}
 use Rattle.delay.specs.Keeping.{daysFrom}

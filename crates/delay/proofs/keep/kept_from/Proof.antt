@@ -1,5 +1,5 @@
 -- `delay::keep::kept_from` meets its contract.
-use mathlib.Core.Path.{_≡_, sym, ap, _∙_}
+use mathlib.Core.Path.{sym, ap, _∙_}
 use borrow.Author.Needs.{needs}
 use Rattle.whole.proofs.Linear.{ret}
 use Rattle.delay.specs.declared.records.Days.{Days}

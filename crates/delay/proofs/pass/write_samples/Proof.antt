@@ -1,21 +1,18 @@
 -- `delay::pass::write_samples` meets its contract.
-use mathlib.Core.Path.{_≡_, refl, sym, ap, subst, _∙_}
+use mathlib.Core.Path.{_≡_, refl, sym, ap, _∙_}
 use mathlib.Core.Bool.{true}
 use mathlib.Core.List.{List, _++_}
-use Prim.Native.Nat.{ℕ, zero, suc, _+_, _-_, _≤_, _<_}
+use Prim.Native.Nat.{ℕ, suc, _+_, _-_, _≤_, _<_}
 use native.Mathlib.Numerals.{add-one}
 use native.Mathlib.Omega.{arith}
-use borrow.Author.Needs.{needs}
-use lib.ListN.{length, drop, set, length-set, length-append, length-drop}
-use lib.IntN.{ℤ, pos, natAbs, _*ℤ_}
+use lib.ListN.{length, drop, set}
+use lib.IntN.{ℤ}
 use mir.Syntax.{w64}
 use mir.Val.{toZ, ofZ}
 use Rattle.whole.proofs.Linear.{ret}
-use Rattle.earth.specs.declared.time.Epoch.{Epoch}
 use Rattle.session.specs.declared.Pass.{Pass}
 use Rattle.sections.proofs.Search.{below-each}
 use Rattle.wave.specs.declared.Sight.{Sight}
-use Rattle.delay.specs.Bounds.{InPass}
 use Rattle.delay.specs.Calls.{samplesOf, allCovered, firstValues}
 use Rattle.delay.specs.Keeping.{TrueKept, delayAt}
 use Rattle.delay.specs.Sessions.{covers, sampleEpoch}

@@ -1,5 +1,4 @@
 -- `delay::records::days_from` meets its contract.
-use mathlib.Core.Path.{_≡_}
 use borrow.Author.Needs.{needs}
 use lib.IntN.{pos}
 use Rattle.whole.proofs.Linear.{back}

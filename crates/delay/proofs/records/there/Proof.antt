@@ -1,7 +1,7 @@
 -- `delay::records::there` meets its contract.
-use mathlib.Core.Path.{_≡_, refl, ap}
+use mathlib.Core.Path.{ap}
 use borrow.Author.Tests.{eq-eqb, eqb-true}
-use lib.IntN.{ℤ, pos}
+use lib.IntN.{pos}
 use mir.Syntax.{w64}
 use mir.Val.{SFits, ofZ}
 use native.Mathlib.Omega.{arith}

@@ -1,5 +1,5 @@
 -- `wave::plane::delay_at` meets its contract.
-use mathlib.Core.Path.{_≡_, ap, _∙_}
+use mathlib.Core.Path.{ap, _∙_}
 use borrow.Author.Needs.{needs}
 use Rattle.whole.proofs.Linear.{back, ret}
 use Rattle.wave.specs.declared.plane.Baseline.{Baseline}

@@ -1,12 +1,7 @@
 -- `wave::plane::shifted` meets its contract.
-use mathlib.Core.Path.{_≡_, ap, _∙_}
-use Prim.Native.Nat.{ℕ, _≤_}
+use mathlib.Core.Path.{ap, _∙_}
 use borrow.Author.Needs.{needs}
-use native.Mathlib.Nat.{le-trans}
-use native.Mathlib.Omega.{arith}
-use lib.Dec.{lit≤}
 use lib.IntN.{ℤ, _+ℤ_, _-ℤ_}
-use Rattle.whole.specs.Whole.{∣_∣}
 use Rattle.whole.proofs.Machine.{M, var, _⊞_, _⊟_, val, bounded, ok, is}
 use Rattle.wave.specs.PlaneWave.{shiftOf, shiftedOf}
 use Rattle.wave.proofs.plane.shifted.Statement.{statement}

@@ -1,15 +1,14 @@
 -- `wave::plane::tick` meets its contract.
-use mathlib.Core.Path.{_≡_, refl, sym}
+use mathlib.Core.Path.{_≡_}
 use mathlib.Core.Bool.{true, false}
-use Prim.Native.Nat.{ℕ, suc, _-_, _≤_, _^_}
+use Prim.Native.Nat.{suc, _-_}
 use native.Mathlib.Omega.{arith}
 use lib.IntN.{ℤ, pos, negsuc, natAbs, _+ℤ_}
 use lib.Dec.{T}
-use lib.Signed.{ltZ, nonNeg, _≤ℤ_}
+use lib.Signed.{ltZ, nonNeg}
 use mir.Syntax.{w32}
 use mir.Val.{Fits}
-use Rattle.whole.specs.Whole.{∣_∣, modZ}
-use Rattle.whole.proofs.Linear.{zarith, add-law, back, ltZ-true, ltZ-false, no-tf}
+use Rattle.whole.proofs.Linear.{zarith, add-law, back, ltZ-true, no-tf}
 use Rattle.whole.proofs.Machine.{M, lit, var, _⊞_, ok, is}
 use Rattle.earth.proofs.Floors.{in-abs}
 use Rattle.wave.specs.Bounds.{InTick}

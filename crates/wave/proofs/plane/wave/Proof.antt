@@ -1,15 +1,15 @@
 -- `wave::plane::wave` meets its contract.
-use mathlib.Core.Path.{_≡_, sym, ap, _∙_}
-use Prim.Native.Nat.{ℕ, _*_, _^_, _≤_}
+use mathlib.Core.Path.{_≡_, ap, _∙_}
+use Prim.Native.Nat.{_*_, _^_, _≤_}
 use borrow.Author.Needs.{needs}
 use native.Mathlib.Nat.{le-trans}
 use native.Mathlib.Omega.{arith}
 use lib.Dec.{lit≤}
 use lib.IntN.{ℤ, pos, negℤ, _+ℤ_, _-ℤ_, _*ℤ_, +ℤ-idl}
-use Rattle.whole.specs.Whole.{∣_∣, R}
+use Rattle.whole.specs.Whole.{R}
 use Rattle.whole.proofs.Linear.{ret}
-use Rattle.whole.proofs.Machine.{M, lit, var, _⊞_, _⊟_, _⊠_, val, bounded, ok, is}
-use Rattle.whole.proofs.Quote.{⟨_⟩, #, _⊕_, _⊝_, _⊗_, ⊖, by≡}
+use Rattle.whole.proofs.Machine.{M, lit, var, _⊟_, bounded, ok, is}
+use Rattle.whole.proofs.Quote.{⟨_⟩, #, _⊕_, _⊝_, _⊗_, by≡}
 use Rattle.sine.specs.Sine.{sineOf, cosineOf}
 use Rattle.wave.specs.declared.plane.Turn.{Turn}
 use Rattle.wave.specs.PlaneWave.{turnOf, equatorial, alongSource, waveOf}

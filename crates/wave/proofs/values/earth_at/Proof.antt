@@ -1,17 +1,15 @@
 -- `wave::values::earth_at` meets its contract.
 use mathlib.Core.Path.{_≡_, sym, ap, subst, _∙_}
-use Prim.Native.Nat.{ℕ, _≤_}
+use Prim.Native.Nat.{_≤_}
 use native.Mathlib.Nat.{le-trans}
 use native.Mathlib.Omega.{arith}
 use lib.Dec.{lit≤}
 use lib.IntN.{ℤ, _+ℤ_}
 use mir.Syntax.{w64}
 use mir.Val.{toZ, ofZ}
-use Rattle.whole.specs.Whole.{∣_∣}
 use Rattle.whole.proofs.Linear.{abs-sub, back, ret}
 use Rattle.whole.proofs.Machine.{M, var, is}
 use Rattle.earth.specs.Angle.{eraOf}
-use Rattle.earth.specs.TideInUT1.{tideOf}
 use Rattle.earth.proofs.Floors.{in-abs}
 use Rattle.wave.specs.declared.values.Earth.{Earth}
 use Rattle.wave.specs.Bounds.{InEarth}

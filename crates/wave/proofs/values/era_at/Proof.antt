@@ -1,12 +1,10 @@
 -- `wave::values::era_at` meets its contract.
 use mathlib.Core.Path.{_≡_, ap, _∙_}
-use Prim.Native.Nat.{ℕ, _*_, _/_, _^_, _≤_}
+use Prim.Native.Nat.{ℕ, _*_, _/_, _^_}
 use borrow.Author.Needs.{needs}
-use native.Mathlib.Nat.{le-trans}
 use native.Mathlib.Omega.{arith}
-use lib.Dec.{lit≤}
 use lib.IntN.{ℤ, pos, _+ℤ_, _*ℤ_}
-use Rattle.whole.specs.Whole.{∣_∣, floorZ}
+use Rattle.whole.specs.Whole.{floorZ}
 use Rattle.whole.proofs.Linear.{back}
 use Rattle.whole.proofs.Machine.{M, lit, var, _⊞_, _⊠_, val, ok, is}
 use Rattle.whole.proofs.Rounding.{floor-abs}

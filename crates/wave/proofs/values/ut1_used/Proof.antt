@@ -1,12 +1,9 @@
 -- `wave::values::ut1_used` meets its contract.
-use mathlib.Core.Path.{_≡_, _∙_}
-use Prim.Native.Nat.{ℕ}
+use mathlib.Core.Path.{_∙_}
 use native.Mathlib.Nat.{le-trans}
 use native.Mathlib.Omega.{arith}
 use borrow.Author.Needs.{needs}
 use lib.Dec.{lit≤}
-use lib.IntN.{_+ℤ_}
-use Rattle.whole.specs.Whole.{∣_∣}
 use Rattle.whole.proofs.Linear.{abs-sub, back, ret}
 use Rattle.wave.specs.DayValues.{ut1rOf, ut1Line}
 use Rattle.wave.proofs.DayLaws.{ms-lo, ms-hi, ends-moved}

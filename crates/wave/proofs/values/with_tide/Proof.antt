@@ -1,5 +1,4 @@
 -- `wave::values::with_tide` meets its contract.
-use mathlib.Core.Path.{_≡_}
 use Rattle.whole.proofs.Machine.{M, var, _⊞_, bounded, ok, is}
 use Rattle.wave.specs.DayValues.{ut1rOf}
 use Rattle.wave.proofs.values.with_tide.Statement.{statement}
