@@ -207,16 +207,24 @@ delay-between-requires c κs =
     let n = in-names v in
     (n .0, n .1, n .2, v .earth-in .ensures .1)
 
+-- the delay that was worked out
+module _ (c : tie.After-delay-between) where
+  abbrev v : tie.After-earth-in
+  v = c .before .before .before .before
+
+  abbrev u : tie.After-judged
+  u = q (p v)
+
+  value-is : toZ w64 (ofZ w64 (c .delay-between .result)) ≡ delayIn (file u) (a u) (b u) (r u) (epochOf (day u) (ms u))
+  unfolding delayIn
+  value-is =
+      ret (c .delay-between .result) (c .delay-between .ok)
+      ∙ c .delay-between .ensures
+      ∙ ap (λ (n : Named). delayBetween (n .first) (n .second) (n .source) (v .earth-in .result)) (names-are (w (l (p v))))
+      ∙ ap (delayBetween (stationBy (file u) (a u)) (stationBy (file u) (b u)) (sourceBy (file u) (r u))) (earth-is v)
+
 returns-4 : tie.Need-returns-4
-unfolding delayIn
-returns-4 c =
-    let v = c .before .before .before .before in
-    let u = q (p v) in
-    given (file u) (a u) (b u) (r u) (day u) (ms u) (zero-number (p v))
-    (ret (c .delay-between .result) (c .delay-between .ok)
-    ∙ c .delay-between .ensures
-    ∙ ap (λ (n : Named). delayBetween (n .first) (n .second) (n .source) (v .earth-in .result)) (names-are (w (l (p v))))
-    ∙ ap (delayBetween (stationBy (file u) (a u)) (stationBy (file u) (b u)) (sourceBy (file u) (r u))) (earth-is v))
+returns-4 c = let k = u c in given (file k) (a k) (b k) (r k) (day k) (ms k) (zero-number (p (v c))) (simp (value-is c))
 
 pub delay-spec : {M : Type 1} → statement M
 delay-spec =

@@ -25,7 +25,8 @@ tide-at-minute-requires c κs = search needs
 returns-2 : tie.Need-returns-2
 returns-2 c =
     let s = c .before .before .before .before in
-    by-both (s .args .n) (back (s .fits .n)) (ret (c .tide-at-minute .result) (c .tide-at-minute .ok) ∙ c .tide-at-minute .ensures ∙ ap tideAt (back (s .fits .n)))
+    let tide = ret (c .tide-at-minute .result) (c .tide-at-minute .ok) ∙ c .tide-at-minute .ensures ∙ ap tideAt (back (s .fits .n)) in
+    by-both (s .args .n) (back (s .fits .n)) (simp tide)
 
 pub minute-at-spec : {M : Type 1} → statement M
 minute-at-spec = tie.close (tie.spec returns tide-at-minute-requires returns-2)
