@@ -1,25 +1,26 @@
 -- What the delays lean on of a file that is accepted: each field that they read is in its range. Assumes nothing.
-use mathlib.Core.Path.{_≡_, refl, sym, subst}
-use mathlib.Core.Bool.{true}
+use mathlib.Core.Path.{_≡_, sym, subst}
+use mathlib.Core.Bool.{true, _&&_}
 use mathlib.Core.List.{List}
 use Prim.Native.Nat.{ℕ, _≤_, _<_}
-use native.Mathlib.Nat.{le-trans}
 use native.Mathlib.Omega.{arith}
 use borrow.Author.Tests.{ltb-true}
-use lib.Dec.{ltb, lit≤}
-use lib.IntN.{ℤ, pos, negℤ}
-use Rattle.whole.specs.Whole.{P, N, ∣_∣}
+use lib.Dec.{ltb}
+use lib.IntN.{ℤ, pos}
+use Rattle.whole.specs.Whole.{∣_∣}
 use Rattle.whole.specs.Ranges.{In}
+use Rattle.whole.proofs.Linear.{and-true}
 use Rattle.earth.specs.Ranges.{InDay}
-use Rattle.sections.specs.File.{refusalOf, countOf, fieldAt}
+use Rattle.sections.specs.File.{refusalOf, countOf}
 use Rattle.session.specs.declared.Station.{Station}
 use Rattle.session.specs.declared.Source.{Source}
 use Rattle.session.specs.declared.Day.{Day}
-use Rattle.session.specs.declared.Pass.{Pass}
 use Rattle.session.specs.Records.{stationOf, sourceOf, dayOf, passOf, placeBy, stationBy, sourceBy, dayBy}
-use Rattle.session.proofs.Laws.{Natural, StationRanges, SourceRanges, DayRanges, PassRanges, station-ranges, source-ranges, day-ranges, pass-ranges, station-by, source-by, day-by, place-has}
-use Rattle.delay.specs.Bounds.{InTick, InRecord, InStation, InSource, InPass}
-use Rattle.delay.specs.DayValues.{ut1rOf}
+use Rattle.session.proofs.Laws.{Natural, StationRanges, SourceRanges, DayRanges, station-ranges, source-ranges, day-ranges, pass-ranges, station-by, source-by, day-by, place-has}
+use Rattle.wave.specs.Bounds.{InTick, InRecord, InStation, InSource}
+use Rattle.wave.proofs.DayLaws.{ut1r-size}
+use Rattle.delay.specs.Bounds.{InPass}
+use Rattle.delay.specs.Calls.{hasId, allThere}
 
 -- a natural between two bounds, as the code's requirements read it
 natural-in : {a b : ℕ} {z : ℤ} → Natural a b z → In (pos a) (pos b) z
@@ -38,8 +39,7 @@ source-in : (r : Source) → SourceRanges r → InSource r
 source-in r h = record { ascension = natural-tick (r .«right_ascension») (natural-in (h .right-ascension)); declined = size-tick (r .declination) (h .declination) }
 
 day-in : (r : Day) → DayRanges r → InRecord r
-unfolding ut1rOf
-day-in r h = record { x-size = h .x; y-size = h .y; ut1-size = le-trans (h .ut1-utc) (lit≤ tt); tai = natural-in (h .tai-utc) }
+day-in r h = record { x-size = h .x; y-size = h .y; ut1-size = ut1r-size r (h .ut1-utc); tai = natural-in (h .tai-utc) }
 
 module _ (s : List ℕ) (accepted : refusalOf s ≡ 0) where
   pub pass-in : (i : ℕ) → i < countOf s 3 → InPass (passOf s i)
@@ -48,15 +48,22 @@ module _ (s : List ℕ) (accepted : refusalOf s ≡ 0) where
       record { day = natural-in (r .mjd); ms = natural-in (r .ms); step = natural-in (r .step); samples = natural-in (r .samples) }
 
   -- the records by their id, or their day
-  pub station-by-in : (z : ℤ) → ltb (placeBy s 0 z) (countOf s 0) ≡ true → InStation (stationBy s z)
+  station-by-in : (z : ℤ) → ltb (placeBy s 0 z) (countOf s 0) ≡ true → InStation (stationBy s z)
   station-by-in z e =
       let l = ltb-true (placeBy s 0 z) (countOf s 0) e in
       subst InStation (sym (station-by s z l)) (station-in (stationOf s (placeBy s 0 z)) (station-ranges s accepted (placeBy s 0 z) l))
 
-  pub source-by-in : (z : ℤ) → ltb (placeBy s 1 z) (countOf s 1) ≡ true → InSource (sourceBy s z)
+  source-by-in : (z : ℤ) → ltb (placeBy s 1 z) (countOf s 1) ≡ true → InSource (sourceBy s z)
   source-by-in z e =
       let l = ltb-true (placeBy s 1 z) (countOf s 1) e in
       subst InSource (sym (source-by s z l)) (source-in (sourceOf s (placeBy s 1 z)) (source-ranges s accepted (placeBy s 1 z) l))
+
+  -- the three records that a delay is asked for
+  pub names-in : (a b r : ℤ) → allThere s a b r ≡ true → InStation (stationBy s a) × InStation (stationBy s b) × InSource (sourceBy s r)
+  names-in a b r e =
+      let p = and-true (hasId s 0 a) (hasId s 0 b && hasId s 1 r) e in
+      let q = and-true (hasId s 0 b) (hasId s 1 r) (p .1) in
+      (station-by-in a (p .0), station-by-in b (q .0), source-by-in r (q .1))
 
   pub day-by-in : (z : ℤ) → ltb (placeBy s 2 z) (countOf s 2) ≡ true → InRecord (dayBy s z)
   day-by-in z e =

@@ -1,7 +1,7 @@
 -- Laws of a pass's epochs. Assumes nothing.
-use mathlib.Core.Path.{_≡_, refl, ap, _∙_}
+use mathlib.Core.Path.{_≡_, ap, subst, _∙_}
 use Prim.Native.Nat.{ℕ, _+_, _*_, _≤_, _<_}
-use native.Mathlib.Nat.{le-trans, mul-le-mul, add-zero}
+use native.Mathlib.Nat.{le-trans, mul-le-mul}
 use native.Mathlib.Omega.{arith}
 use lib.Dec.{lit≤}
 use lib.IntN.{ℤ, pos, negsuc, natAbs, _+ℤ_, _*ℤ_}
@@ -10,18 +10,20 @@ use lib.Signed.{_≤ℤ_, nonNeg}
 use mir.Syntax.{w64}
 use mir.Val.{Fits, toZ, ofZ}
 use Rattle.whole.proofs.Machine.{var, is}
-use Rattle.whole.specs.Whole.{P, N, ∣_∣, floorZ, modZ}
+use Rattle.whole.specs.Whole.{P, N, ∣_∣, floorZ}
 use Rattle.whole.specs.Ranges.{In}
-use Rattle.whole.proofs.Linear.{zarith, in-le, parts-le, abs-add, abs-mul≤, mul-P, mul-N, add-law}
+use Rattle.whole.proofs.Linear.{zarith, parts-le, abs-add, mul-P, mul-N, add-law}
 use Rattle.whole.proofs.Rounding.{mod-below, floor-abs, floor-unique}
-use Rattle.whole.proofs.Quote.{⟨_⟩, #, _⊕_, _⊗_, by≤, by<}
-use Rattle.earth.specs.Ranges.{InDay, InMs, InAdd}
+use Rattle.whole.proofs.Quote.{⟨_⟩, #, _⊕_, _⊗_, by≡, by≤, by<}
+use Rattle.earth.specs.Ranges.{InMs, InAdd}
+use Rattle.earth.specs.declared.time.Epoch.{Epoch}
 use Rattle.earth.specs.Epoch.{laterOf}
+use Rattle.earth.proofs.Epochs.{later-ms, later-twice, later-day}
 use Rattle.earth.proofs.Floors.{in-abs}
 use Rattle.session.specs.declared.Pass.{Pass}
 use Rattle.delay.specs.Bounds.{InPass}
 use Rattle.delay.specs.Calls.{samplesOf}
-use Rattle.delay.specs.Sessions.{sampleEpoch}
+use Rattle.delay.specs.Sessions.{startOf, sampleEpoch}
 
 -- a pass has 1 to 4,096 samples
 counted : (z : ℤ) → In (pos 1) (pos 4096) z → (1 ≤ natAbs z) × (natAbs z ≤ 4096)
@@ -38,6 +40,9 @@ cast-in (negsuc n) h = absurd (omega (arith, h .n-lo))
 
 pub samples-back : (p : Pass) → InPass p → toZ w64 (ofZ w64 (p .samples)) ≡ p .samples
 samples-back p h = is (var (p .samples) 4096 (in-abs (p .samples) (h .samples))) tt
+
+pub samples-read : (p : Pass) → InPass p → natAbs (toZ w64 (ofZ w64 (p .samples))) ≡ samplesOf p
+samples-read p h = ap natAbs (samples-back p h)
 
 pub samples-cast : (p : Pass) → InPass p → T (nonNeg (toZ w64 (ofZ w64 (p .samples)))) × Fits w64 (natAbs (toZ w64 (ofZ w64 (p .samples))))
 samples-cast p h = rw (samples-back p h) (cast-in (p .samples) (h .samples))
@@ -89,3 +94,12 @@ first-day p h =
     (by≤ (# 0 ⊗ # 86400000) (⟨ p .ms ⟩ ⊕ # 0 ⊗ ⟨ p .step ⟩) (omega zarith))
     (by< (⟨ p .ms ⟩ ⊕ # 0 ⊗ ⟨ p .step ⟩) (# 0 ⊗ # 86400000 ⊕ # 86400000) (omega zarith)) in
     ap (λ (n : ℤ). p .mjd +ℤ n) f ∙ omega (zarith, add-law (p .mjd) (pos 0))
+
+-- a later sample stands on no earlier day
+pub sample-days : (p : Pass) (i k : ℕ) → InPass p → k < 4096 → sampleEpoch p i .day ≤ℤ sampleEpoch p (i + k) .day
+unfolding sampleEpoch
+sample-days p i k h l =
+    let e = laterOf (startOf p) (pos i *ℤ p .step) in
+    let d = later-day e (pos k *ℤ p .step) (later-ms (startOf p) (pos i *ℤ p .step)) (add-in p k h l) .0 in
+    let t : pos i *ℤ p .step +ℤ pos k *ℤ p .step ≡ pos (i + k) *ℤ p .step = by≡ (# i ⊗ ⟨ p .step ⟩ ⊕ # k ⊗ ⟨ p .step ⟩) (# (i + k) ⊗ ⟨ p .step ⟩) (omega arith) in
+    subst (λ (x : Epoch). e .day ≤ℤ x .day) (later-twice (startOf p) (pos i *ℤ p .step) (pos k *ℤ p .step) ∙ ap (laterOf (startOf p)) t) d

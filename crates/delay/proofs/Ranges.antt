@@ -2,7 +2,6 @@
 use mathlib.Core.Path.{_≡_}
 use mathlib.Core.Bool.{Bool, true, false, _&&_}
 use lib.IntN.{ℤ, pos}
-use lib.Signed.{leZ}
 use Rattle.whole.proofs.Linear.{in-yes, and-true, no-ft}
 use Rattle.earth.specs.Ranges.{InDay, InMs, dayOk, msOk}
 

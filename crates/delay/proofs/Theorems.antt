@@ -1,7 +1,7 @@
 -- What is proved of the outcomes of the calls `orientation`, `delay` and `samples`. Assumes nothing.
 use mathlib.Core.Path.{_≡_, refl, sym, ap, _∙_}
 use mathlib.Core.Bool.{Bool, true, false, _&&_, cond}
-use mathlib.Core.List.{List, [], _∷_, _++_}
+use mathlib.Core.List.{List, [], _∷_}
 use Prim.Native.Nat.{ℕ, zero, suc, _≤_, _<_}
 use native.Mathlib.Omega.{arith}
 use lib.Dec.{eqb, leb, ltb}
@@ -9,27 +9,27 @@ use borrow.Author.Tests.{ne-eqb}
 use lib.ListN.{length, getD, drop}
 use lib.IntN.{ℤ, pos, negℤ}
 use Rattle.whole.specs.Whole.{∣_∣}
-use Rattle.whole.proofs.Linear.{and-true}
 use Rattle.earth.specs.declared.NumberAnswer.{NumberAnswer}
 use Rattle.earth.specs.declared.time.Epoch.{Epoch}
 use Rattle.earth.specs.Calls.{epochOf}
 use Rattle.earth.specs.Ranges.{InMs, dayOk, msOk}
-use Rattle.sections.specs.File.{contentsRight, rangesRight, idsRight, daysRight, refusalOf, countOf}
-use Rattle.sections.specs.Each.{allBelow, firstNot}
-use Rattle.sections.proofs.Search.{below-each, not-all, first-fails}
+use Rattle.sections.specs.File.{refusalOf, countOf}
+use Rattle.whole.specs.Each.{allBelow, firstNot}
+use Rattle.whole.proofs.Each.{below-each, below-fails, not-all, first-fails}
+use Rattle.sections.proofs.Accepted.{refusal-most}
 use Rattle.session.specs.declared.Pass.{Pass}
 use Rattle.session.specs.Records.{stationBy, sourceBy, passOf}
+use Rattle.wave.proofs.Sizes.{between-size}
+use Rattle.wave.proofs.Swapped.{between-neg, between-same}
 use Rattle.delay.specs.declared.EarthAnswer.{EarthAnswer}
-use Rattle.delay.specs.Calls.{lowest, unless, idOk, hasId, allThere, number, noNumber, delayIn, delayNumber, delayOutcome, orientationOutcome, samplesOf, allCovered, firstValues, sampleIn, samplesNumber, samplesOutcome, samplesRoom}
+use Rattle.delay.specs.Calls.{lowest, unless, idOk, hasId, allThere, number, noNumber, delayIn, delayNumber, delayOutcome, orientationOutcome, samplesOf, allCovered, sampleIn, samplesNumber, samplesOutcome, samplesRoom}
 use Rattle.delay.specs.Sessions.{covers, earthIn, sampleEpoch}
-use Rattle.delay.proofs.Accepted.{station-by-in}
-use Rattle.delay.proofs.Covered.{earth-in-pole}
+use Rattle.delay.proofs.Accepted.{names-in}
+use Rattle.delay.proofs.Covered.{earth-in-size}
 use Rattle.delay.proofs.Epochs.{sample-ms}
 use Rattle.delay.proofs.Lowest.{lower-zero, unless-zero, days-first, six-fails}
 use Rattle.delay.proofs.Ranges.{asked-in}
-use Rattle.delay.proofs.Sizes.{between-size}
-use Rattle.delay.proofs.Swapped.{between-neg, between-same}
-use Rattle.delay.proofs.Written.{sample-at, fails-at}
+use Rattle.delay.proofs.Written.{sample-at}
 
 -- ---- one value: any two results that a promise allows are equal
 pub orientation-one : (s : List ℕ) (day ms : ℤ) (a b : EarthAnswer) → a ≡ orientationOutcome s day ms → b ≡ orientationOutcome s day ms → a ≡ b
@@ -104,9 +104,8 @@ sample-swap s p j = delay-in-swap s (p .station1) (p .station2) (p .source) (sam
 pub delay-in-size : (s : List ℕ) (a b r : ℤ) (e : Epoch) → refusalOf s ≡ 0 → allThere s a b r ≡ true → covers s (e .day) ≡ true → InMs (e .ms) → ∣ delayIn s a b r e ∣ ≤ 130000000000
 unfolding delayIn
 delay-in-size s a b r e h t c m =
-    let p = and-true (hasId s 0 a) (hasId s 0 b && hasId s 1 r) t in
-    let q = and-true (hasId s 0 b) (hasId s 1 r) (p .1) in
-    between-size (stationBy s a) (stationBy s b) (sourceBy s r) (earthIn s e) (station-by-in s h a (p .0)) (station-by-in s h b (q .0)) (earth-in-pole s e h c m)
+    let n = names-in s h a b r t in
+    between-size (stationBy s a) (stationBy s b) (sourceBy s r) (earthIn s e) (n .0) (n .1) (earth-in-size s e h c m)
 
 -- what it says that a call of `delay` is not refused
 delay-clear : (s : List ℕ) (a b r day ms : ℤ) → delayNumber s a b r day ms ≡ 0 → (refusalOf s ≡ 0) × (allThere s a b r ≡ true) × (covers s day ≡ true) × InMs ms
@@ -128,18 +127,6 @@ unfolding delayOutcome
 delay-bounded s a b r day ms =
     answer-size (delayNumber s a b r day ms) (delayIn s a b r (epochOf day ms)) 130000000000
     (λ e. let c = delay-clear s a b r day ms e in delay-in-size s a b r (epochOf day ms) (c .0) (c .1) (c .2) (c .3))
-
--- a file's number is at most 4
-most-of : (a b c d : Bool) → cond a (cond b (cond c (cond d 0 4) 3) 2) 1 ≤ 4
-most-of true true true true = omega arith
-most-of true true true false = omega arith
-most-of true true false d = omega arith
-most-of true false c d = omega arith
-most-of false b c d = omega arith
-
-refusal-most : (s : List ℕ) → refusalOf s ≤ 4
-unfolding refusalOf
-refusal-most s = most-of (contentsRight s) (rangesRight s) (idsRight s) (daysRight s)
 
 -- ---- a pass: what it says that its samples are given
 
@@ -188,7 +175,7 @@ pub six-if : (s : List ℕ) (i n : ℕ) → refusalOf s ≡ 0 → ltb i (countOf
 unfolding samplesNumber allCovered
 six-if s i n a t m j h c =
     let p = passOf s i in
-    rw (a, t, m, fails-at (samplesOf p) j (λ (x : ℕ). covers s (sampleEpoch p x .day)) h c) (days-first (leb (samplesOf p) n))
+    rw (a, t, m, below-fails (samplesOf p) j (λ (x : ℕ). covers s (sampleEpoch p x .day)) h c) (days-first (leb (samplesOf p) n))
 
 pub record Lacking (s : List ℕ) (p : Pass) : Type 0 where
   pub sample : ℕ

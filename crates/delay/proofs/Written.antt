@@ -3,16 +3,12 @@ use mathlib.Core.Path.{_≡_, refl, sym, ap, _∙_}
 use mathlib.Core.Bool.{Bool, true, false}
 use mathlib.Core.List.{List, [], _∷_, _++_, append-assoc}
 use Prim.Native.Nat.{ℕ, zero, suc, _+_, _≤_, _<_}
-use native.Mathlib.Numerals.{add-one}
 use native.Mathlib.Omega.{arith}
 use lib.ListN.{length, drop, getD, set, length-append, length-drop, List·getD-append}
 use lib.IntN.{ℤ, pos}
 use lib.Seq.{drop-cons, set-at, getD-append-add}
 use lib.Dec.{ltb}
 use borrow.Author.Tests.{ltb-true, ltb-false}
-use Rattle.whole.proofs.Linear.{no-tf}
-use Rattle.sections.specs.Each.{allBelow}
-use Rattle.sections.proofs.Search.{below-each}
 use Rattle.delay.specs.Calls.{firstValues}
 
 pub values-count : (n : ℕ) (f : ℕ → ℤ) → length (firstValues n f) ≡ n
@@ -48,11 +44,3 @@ value-at (suc n) f j h = last-value n f j (value-at n f) h (ltb j n) refl
 
 pub sample-at : (n : ℕ) (f : ℕ → ℤ) (rest : List ℤ) (j : ℕ) → j < n → getD (firstValues n f ++ rest) j (pos 0) ≡ f j
 sample-at n f rest j h = List·getD-append (firstValues n f) rest (pos 0) j (rw (values-count n f) h) ∙ value-at n f j h
-
--- a test that fails at one number below n does not hold of all
-fails-by : (n i : ℕ) (p : ℕ → Bool) → i < n → p i ≡ false → (t : Bool) → allBelow n p ≡ t → allBelow n p ≡ false
-fails-by n i p h f true e = no-tf (sym (below-each n i p h e) ∙ f)
-fails-by n i p h f false e = e
-
-pub fails-at : (n i : ℕ) (p : ℕ → Bool) → i < n → p i ≡ false → allBelow n p ≡ false
-fails-at n i p h f = fails-by n i p h f (allBelow n p) refl

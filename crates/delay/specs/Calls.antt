@@ -1,9 +1,9 @@
 -- The three public calls: what each returns and leaves in the room lent, for every input. Document 01, 'Refusal numbers'.
 use Prim.Native.Nat.{ℕ, zero, suc, _+_, min}
 use mathlib.Core.Bool.{Bool, true, false, _&&_, cond}
-use mathlib.Core.List.{List, [], _∷_, _++_, map}
+use mathlib.Core.List.{List, [], _∷_, _++_}
 use lib.ListN.{length, drop}
-use lib.IntN.{ℤ, pos, natAbs, _+ℤ_}
+use lib.IntN.{ℤ, pos, natAbs}
 use lib.Dec.{leb, ltb, eqb}
 use lib.Signed.{leZ}
 use Rattle.earth.specs.declared.time.Epoch.{Epoch}
@@ -11,12 +11,13 @@ use Rattle.earth.specs.declared.NumberAnswer.{NumberAnswer}
 use Rattle.earth.specs.Ranges.{dayOk, msOk}
 use Rattle.earth.specs.Calls.{epochOf}
 use Rattle.session.specs.declared.Pass.{Pass}
-use Rattle.sections.specs.Each.{allBelow}
+use Rattle.whole.specs.Each.{allBelow}
 use Rattle.sections.specs.File.{refusalOf, countOf}
 use Rattle.session.specs.Records.{stationBy, sourceBy, placeBy, passOf}
 use Rattle.delay.specs.declared.EarthAnswer.{EarthAnswer}
-use Rattle.delay.specs.declared.values.Earth.{Earth}
-use Rattle.delay.specs.Sessions.{delayBetween, covers, earthIn, sampleEpoch}
+use Rattle.wave.specs.declared.values.Earth.{Earth}
+use Rattle.wave.specs.Delays.{delayBetween}
+use Rattle.delay.specs.Sessions.{covers, earthIn, sampleEpoch}
 
 -- "The lowest number that applies is given": of two numbers, where 0 is no refusal; and of a list.
 abbrev pub lowerOf : ℕ → ℕ → ℕ

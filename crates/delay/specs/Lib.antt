@@ -1,6 +1,4 @@
 pub mod Bounds
 pub mod Calls
-pub mod DayValues
 pub mod Keeping
-pub mod PlaneWave
 pub mod Sessions

@@ -1,22 +1,21 @@
-// Delays of a plane wave between two stations, and the samples of a pass. Document 01, 'Day values' and 'Delay'.
+// The orientation of the earth, delays, and the samples of a pass, from a session file. Document 01, 'Day values' and 'Delay'.
 pub mod keep;
 pub mod pass;
-pub mod plane;
 pub mod records;
-pub mod values;
 
 use earth::Epoch;
 use earth::NumberAnswer;
 use pass::all_covered;
-use pass::sight_by;
 use pass::write_samples;
-use plane::delay_of;
 use records::covers;
 use records::earth_in;
+use records::named_by;
 use sections::refusal::count_of;
 use sections::refusal::number;
 use sections::refusal::refusal_of;
 use session::records::pass_of;
+use wave::delay_between;
+use wave::sight_of;
 use whole::sign::in_range;
 ghost use mathlib.Core.Path.{_≡_};
 ghost use mathlib.Core.Bool.{_&&_};
@@ -130,17 +129,18 @@ pub fn delay(
     if n != 0 {
         return no_number(n);
     }
-    let v = sight_by(file, station1, station2, source);
-    if !v.found {
+    let names = named_by(file, station1, station2, source);
+    if !names.found {
         return no_number(5);
     }
     if !covers(file, day) {
         return no_number(6);
     }
     let e = earth_in(file, Epoch { day: day, ms: ms });
-    let b = v.baseline;
-    let d = v.direction;
-    let value = delay_of(b, d, e.x, e.y, e.tick);
+    let a = names.first;
+    let b = names.second;
+    let r = names.source;
+    let value = delay_between(a, b, r, e);
     NumberAnswer {
         refusal: 0,
         value: value,
@@ -159,20 +159,23 @@ pub fn samples(file: &[u8], pass: usize, room: &mut [i64]) -> NumberAnswer
         return no_number(5);
     }
     let p = pass_of(file, pass);
-    let v = sight_by(file, p.station1, p.station2, p.source);
-    if !v.found {
+    let names = named_by(file, p.station1, p.station2, p.source);
+    let found = names.found;
+    if !found {
         return no_number(5);
     }
-    if !all_covered(file, p) {
+    let covered = all_covered(file, p);
+    if !covered {
         return no_number(6);
     }
-    let k = p.samples as usize;
-    if room.len() < k {
+    let last = p.samples as usize - 1;
+    if room.len() <= last {
         return no_number(7);
     }
-    let b = v.baseline;
-    let d = v.direction;
-    write_samples(file, p, b, d, room);
+    let a = names.first;
+    let b = names.second;
+    let r = names.source;
+    write_samples(file, p, sight_of(a, b, r), room);
     NumberAnswer {
         refusal: 0,
         value: p.samples,

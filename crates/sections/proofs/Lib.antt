@@ -1,5 +1,4 @@
 pub mod Bits
-pub mod Search
 pub mod Shapes
 pub mod Walk
 pub mod Numbers

@@ -1,4 +1,3 @@
-pub mod Each
 pub mod Words
 pub mod Layouts
 pub mod File

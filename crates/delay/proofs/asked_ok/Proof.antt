@@ -3,7 +3,6 @@ use mathlib.Core.Path.{_≡_, sym, _∙_}
 use mathlib.Core.Bool.{true, false}
 use borrow.Author.Needs.{needs}
 use Rattle.whole.proofs.Linear.{back}
-use Rattle.earth.specs.Ranges.{dayOk, msOk}
 use Rattle.delay.specs.Calls.{idOk}
 use Rattle.delay.proofs.asked_ok.Statement.{statement}
 use Rattle.delay.proofs.asked_ok.Tie as tie

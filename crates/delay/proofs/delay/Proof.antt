@@ -1,34 +1,31 @@
 -- `delay::delay` meets its contract.
 use mathlib.Core.Path.{_≡_, refl, sym, ap, subst, _∙_}
-use mathlib.Core.Bool.{Bool, true, false, _&&_, cond}
+use mathlib.Core.Bool.{Bool, true, _&&_}
 use mathlib.Core.List.{List, [], _∷_}
 use Prim.Native.Nat.{ℕ, _≤_}
 use native.Mathlib.Nat.{le-trans}
 use native.Mathlib.Omega.{arith}
 use borrow.Author.Needs.{needs}
 use borrow.Author.Tests.{ne-eqb}
-use lib.Dec.{eqb, lit≤}
-use lib.IntN.{ℤ, pos}
+use lib.Dec.{lit≤}
+use lib.IntN.{ℤ}
 use mir.Syntax.{w64}
 use mir.Val.{toZ, ofZ}
 use Rattle.whole.proofs.Linear.{back, ret}
-use Rattle.whole.proofs.Machine.{var, is}
 use Rattle.whole.proofs.Tests.{passed, failed}
 use Rattle.earth.specs.declared.time.Epoch.{Epoch}
-use Rattle.earth.specs.declared.NumberAnswer.{NumberAnswer}
 use Rattle.earth.specs.Calls.{epochOf}
 use Rattle.earth.specs.Ranges.{InDay, InMs, dayOk, msOk}
 use Rattle.earth.proofs.Floors.{in-abs}
 use Rattle.sections.specs.File.{refusalOf}
 use Rattle.session.specs.Records.{stationBy, sourceBy}
-use Rattle.delay.specs.declared.plane.Baseline.{Baseline}
-use Rattle.delay.specs.declared.plane.Direction.{Direction}
-use Rattle.delay.specs.declared.values.Earth.{Earth}
-use Rattle.delay.specs.Bounds.{Pole}
+use Rattle.wave.specs.Bounds.{InStation, InSource}
+use Rattle.wave.specs.Delays.{delayBetween}
+use Rattle.delay.specs.declared.records.Named.{Named}
 use Rattle.delay.specs.Calls.{lowerOf, lowest, unless, idOk, allThere, number, noNumber, delayIn, delayNumber, delayOutcome}
-use Rattle.delay.specs.PlaneWave.{directionOf, delayOf}
-use Rattle.delay.specs.Sessions.{baselineOf, angleFor, delayBetween, covers, earthIn}
-use Rattle.delay.proofs.Covered.{earth-in-pole}
+use Rattle.delay.specs.Keeping.{namedBy}
+use Rattle.delay.specs.Sessions.{covers, earthIn}
+use Rattle.delay.proofs.Accepted.{names-in}
 use Rattle.delay.proofs.Lowest.{judged-first, judged-none, late-5-6, names-first}
 use Rattle.delay.proofs.Ranges.{asked-in}
 use Rattle.delay.proofs.delay.Statement.{statement}
@@ -39,9 +36,9 @@ refused : (s : List ℕ) (a b r day ms : ℤ) (n : ℕ) → delayNumber s a b r 
 unfolding delayOutcome
 refused s a b r day ms n e g = sym (rw (e, ne-eqb n 0 g) refl)
 
-given : (s : List ℕ) (a b r day ms : ℤ) → delayNumber s a b r day ms ≡ 0 → number (delayIn s a b r (epochOf day ms)) ≡ delayOutcome s a b r day ms
+given : (s : List ℕ) (a b r day ms : ℤ) {v : ℤ} → delayNumber s a b r day ms ≡ 0 → v ≡ delayIn s a b r (epochOf day ms) → number v ≡ delayOutcome s a b r day ms
 unfolding delayOutcome
-given s a b r day ms e = sym (rw e refl)
+given s a b r day ms e f = ap number f ∙ sym (rw e refl)
 
 module _ (c : tie.After-judged) where
   abbrev start : tie.Start
@@ -111,23 +108,24 @@ module _ (c : tie.Else1) where
   in-range : InDay (day (c .before)) × InMs (ms (c .before))
   in-range = asked-in (idOk (a (c .before))) (idOk (b (c .before))) (idOk (r (c .before))) (day (c .before)) (ms (c .before)) (clear .1)
 
-sight-by-requires : tie.Need-sight-by-requires
-sight-by-requires c κs = clear c .0
+named-by-requires : tie.Need-named-by-requires
+named-by-requires c κs = clear c .0
 
 no-number-requires-2 : tie.Need-no-number-requires-2
 no-number-requires-2 c κs = search needs
 
-module _ (c : tie.After-sight-by) where
+module _ (c : tie.After-named-by) where
   abbrev e1 : tie.Else1
   e1 = c .before
 
   abbrev k : tie.After-judged
   k = e1 .before
 
-  found-is : c .sight-by .result .found ≡ allThere (file k) (a k) (b k) (r k)
-  found-is =
-      c .sight-by .ensures .found-is
-      ∙ simp (back (start k .fits .station1), back (start k .fits .station2), back (start k .fits .source))
+  names-are : c .named-by .result ≡ namedBy (file k) (a k) (b k) (r k)
+  names-are = simp (back (start k .fits .station1), back (start k .fits .station2), back (start k .fits .source)) at (c .named-by .ensures)
+
+  found-is : c .named-by .result .found ≡ allThere (file k) (a k) (b k) (r k)
+  found-is = ap (λ (n : Named). n .found) names-are
 
 returns-2 : tie.Need-returns-2
 unfolding delayNumber
@@ -139,14 +137,11 @@ returns-2 c =
     ∙ refused (file q) (a q) (b q) (r q) (day q) (ms q) 5 (rw (clear (e1 w) .0, clear (e1 w) .1, h) (names-first (covers (file q) (day q)))) (λ z. omega arith)
 
 module _ (c : tie.Else2) where
-  abbrev w : tie.After-sight-by
+  abbrev w : tie.After-named-by
   w = c .before .before
 
-  is-found : w .sight-by .result .found ≡ true
-  is-found = passed refl (c .if2 .left)
-
   there : allThere (file (k w)) (a (k w)) (b (k w)) (r (k w)) ≡ true
-  there = sym (found-is w) ∙ is-found
+  there = passed (found-is w) (c .if2 .left)
 
 covers-requires : tie.Need-covers-requires
 covers-requires c κs =
@@ -196,48 +191,40 @@ module _ (c : tie.After-earth-in) where
   earth-is =
       let s = start (q p) in
       let t : _≡_ {A = Epoch} (record { day = toZ w64 (ofZ w64 (s .args .day)); ms = toZ w64 (ofZ w64 (s .args .ms)) }) (epochOf (s .args .day) (s .args .ms)) = λ i. record { day = back (s .fits .day) i; ms = back (s .fits .ms) i } in
-      c .earth-in .ensures ∙ ap (earthIn (file (q p))) t
+      c .earth-in .ensures .0 ∙ ap (earthIn (file (q p))) t
 
-  pole : Pole (c .earth-in .result .x) (c .earth-in .result .y)
-  pole =
-      subst (λ (v : Earth). Pole (v .x) (v .y)) (sym earth-is)
-      (earth-in-pole (file (q p)) (epochOf (day (q p)) (ms (q p))) (clear (e1 (w (l p))) .0) (is-covered p) (in-range (e1 (w (l p))) .1))
+  abbrev names : Named
+  names = w (l p) .named-by .result
 
-  x-back : toZ w64 (ofZ w64 (c .earth-in .result .x)) ≡ c .earth-in .result .x
-  x-back = is (var (c .earth-in .result .x) 1000000 (pole .x-size)) tt
+  in-names : InStation (names .first) × InStation (names .second) × InSource (names .source)
+  in-names =
+      subst (λ (n : Named). InStation (n .first) × InStation (n .second) × InSource (n .source)) (sym (names-are (w (l p))))
+      (names-in (file (q p)) (clear (e1 (w (l p))) .0) (a (q p)) (b (q p)) (r (q p)) (there (l p)))
 
-  y-back : toZ w64 (ofZ w64 (c .earth-in .result .y)) ≡ c .earth-in .result .y
-  y-back = is (var (c .earth-in .result .y) 1000000 (pole .y-size)) tt
+delay-between-requires : tie.Need-delay-between-requires
+delay-between-requires c κs =
+    let v = c .before .before .before in
+    let n = in-names v in
+    (n .0, n .1, n .2, v .earth-in .ensures .1)
 
-delay-of-requires : tie.Need-delay-of-requires
-delay-of-requires c κs =
-    let v = c .before .before .before .before in
-    let g = w (l (p v)) .sight-by .ensures in
-    (g .short, g .turned, simp (x-back v, y-back v) (pole v))
+-- the delay that was worked out
+module _ (c : tie.After-delay-between) where
+  abbrev v : tie.After-earth-in
+  v = c .before .before .before .before
+
+  abbrev u : tie.After-judged
+  u = q (p v)
+
+  value-is : toZ w64 (ofZ w64 (c .delay-between .result)) ≡ delayIn (file u) (a u) (b u) (r u) (epochOf (day u) (ms u))
+  unfolding delayIn
+  value-is =
+      ret (c .delay-between .result) (c .delay-between .ok)
+      ∙ c .delay-between .ensures
+      ∙ ap (λ (n : Named). delayBetween (n .first) (n .second) (n .source) (v .earth-in .result)) (names-are (w (l (p v))))
+      ∙ ap (delayBetween (stationBy (file u) (a u)) (stationBy (file u) (b u)) (sourceBy (file u) (r u))) (earth-is v)
 
 returns-4 : tie.Need-returns-4
-unfolding delayIn delayBetween angleFor
-returns-4 c =
-    let v = c .before .before .before .before .before in
-    let o = w (l (p v)) in
-    let u = q (p v) in
-    let f = file u in
-    let s = start u in
-    let g = o .sight-by .ensures in
-    let found = is-found (l (p v)) in
-    let e = simp (x-back v, y-back v) at (c .delay-of .ensures) in
-    let bl : o .sight-by .result .baseline ≡ baselineOf (stationBy f (a u)) (stationBy f (b u)) =
-    g .baseline-is found ∙ simp (back (s .fits .station1), back (s .fits .station2)) in
-    let di : o .sight-by .result .direction ≡ directionOf (sourceBy f (r u) .«right_ascension») (sourceBy f (r u) .declination) =
-    g .direction-is found ∙ simp (back (s .fits .source)) in
-    let z =
-    ret (c .delay-of .result) (c .delay-of .ok)
-    ∙ e
-    ∙ ap (λ (x : Baseline). delayOf x (o .sight-by .result .direction) (v .earth-in .result .x) (v .earth-in .result .y) (v .earth-in .result .tick)) bl
-    ∙ ap (λ (x : Direction). delayOf (baselineOf (stationBy f (a u)) (stationBy f (b u))) x (v .earth-in .result .x) (v .earth-in .result .y) (v .earth-in .result .tick)) di
-    ∙ ap (λ (x : Earth). delayOf (baselineOf (stationBy f (a u)) (stationBy f (b u))) (directionOf (sourceBy f (r u) .«right_ascension») (sourceBy f (r u) .declination)) (x .x) (x .y) (x .tick)) (earth-is v) in
-    let n : _≡_ {A = NumberAnswer} (record { refusal = pos 0; value = toZ w64 (ofZ w64 (c .delay-of .result)) }) (number (delayIn f (a u) (b u) (r u) (epochOf (day u) (ms u)))) = λ i. record { refusal = pos 0; value = z i } in
-    n ∙ given f (a u) (b u) (r u) (day u) (ms u) (zero-number (p v))
+returns-4 c = let k = u c in given (file k) (a k) (b k) (r k) (day k) (ms k) (zero-number (p (v c))) (simp (value-is c))
 
 pub delay-spec : {M : Type 1} → statement M
 delay-spec =
@@ -248,12 +235,12 @@ delay-spec =
     judged-requires
     no-number-requires
     returns
-    sight-by-requires
+    named-by-requires
     no-number-requires-2
     returns-2
     covers-requires
     no-number-requires-3
     returns-3
     earth-in-requires
-    delay-of-requires
+    delay-between-requires
     returns-4)

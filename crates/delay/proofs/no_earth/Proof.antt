@@ -1,5 +1,5 @@
 -- `delay::no_earth` meets its contract.
-use mathlib.Core.Path.{_≡_, _∙_}
+use mathlib.Core.Path.{_∙_}
 use borrow.Author.Needs.{needs}
 use lib.IntN.{pos}
 use Rattle.whole.proofs.Linear.{ret}

@@ -1,13 +1,13 @@
 -- `delay::orientation` meets its contract.
-use mathlib.Core.Path.{_≡_, refl, sym, ap, subst, _∙_}
-use mathlib.Core.Bool.{Bool, true, false, _&&_, cond}
+use mathlib.Core.Path.{_≡_, refl, sym, ap, _∙_}
+use mathlib.Core.Bool.{Bool, true, _&&_}
 use mathlib.Core.List.{List, [], _∷_}
 use Prim.Native.Nat.{ℕ, _≤_}
 use native.Mathlib.Nat.{le-trans}
 use native.Mathlib.Omega.{arith}
 use borrow.Author.Needs.{needs}
-use borrow.Author.Tests.{eq-eqb, ne-eqb}
-use lib.Dec.{eqb, lit≤}
+use borrow.Author.Tests.{ne-eqb}
+use lib.Dec.{lit≤}
 use lib.IntN.{ℤ, pos}
 use mir.Syntax.{w64}
 use mir.Val.{toZ, ofZ}
@@ -19,7 +19,7 @@ use Rattle.earth.specs.Ranges.{InDay, InMs, dayOk, msOk}
 use Rattle.earth.proofs.Floors.{in-abs}
 use Rattle.sections.specs.File.{refusalOf}
 use Rattle.delay.specs.declared.EarthAnswer.{EarthAnswer}
-use Rattle.delay.specs.declared.values.Earth.{Earth}
+use Rattle.wave.specs.declared.values.Earth.{Earth}
 use Rattle.delay.specs.Calls.{lowerOf, lowest, unless, noEarth, earthAnswer, orientationNumber, orientationOutcome}
 use Rattle.delay.specs.Sessions.{covers, earthIn}
 use Rattle.delay.proofs.Lowest.{judged-first, judged-none, late-6}
@@ -118,6 +118,10 @@ zero-number : (c : tie.Else2) → orientationNumber (file (c .before .before .be
 unfolding orientationNumber
 zero-number c = let e = c .before .before in rw (clear e .0, clear e .1, passed (covers-is (c .before)) (c .if2 .left)) refl
 
+-- the answer by its four numbers
+by-parts : {x y u : ℤ} {t : ℕ} (e : Earth) → x ≡ e .x → y ≡ e .y → u ≡ e .«ut1_utc» → t ≡ e .tick → _≡_ {A = EarthAnswer} (record { refusal = pos 0; x = x; y = y; «ut1_utc» = u; tick = t }) (earthAnswer e)
+by-parts e p q r s = λ i. record { refusal = pos 0; x = p i; y = q i; «ut1_utc» = r i; tick = s i }
+
 returns-3 : tie.Need-returns-3
 returns-3 c =
     let v = c .before in
@@ -125,12 +129,13 @@ returns-3 c =
     let s = start (p .before .before .before) in
     let f = file (p .before .before .before) in
     let r = v .earth-in .result in
-    let ex = ret (r .x) (c .struct-told .given .0 .1) in
-    let ey = ret (r .y) (c .struct-told .given .1 .0 .1) in
-    let eu = ret (r .«ut1_utc») (c .struct-told .given .1 .1 .0 .1) in
-    let a : _≡_ {A = EarthAnswer} (record { refusal = pos 0; x = toZ w64 (ofZ w64 (r .x)); y = toZ w64 (ofZ w64 (r .y)); «ut1_utc» = toZ w64 (ofZ w64 (r .«ut1_utc»)); tick = r .tick }) (earthAnswer r) = λ i. record { refusal = pos 0; x = ex i; y = ey i; «ut1_utc» = eu i; tick = r .tick } in
+    let x-back = ret (r .x) (c .struct-told .given .0 .1) in
+    let y-back = ret (r .y) (c .struct-told .given .1 .0 .1) in
+    let ut1-back = ret (r .«ut1_utc») (c .struct-told .given .1 .1 .0 .1) in
     let t : _≡_ {A = Epoch} (record { day = toZ w64 (ofZ w64 (s .args .day)); ms = toZ w64 (ofZ w64 (s .args .ms)) }) (epochOf (s .args .day) (s .args .ms)) = λ i. record { day = back (s .fits .day) i; ms = back (s .fits .ms) i } in
-    a ∙ ap earthAnswer (v .earth-in .ensures ∙ ap (earthIn f) t) ∙ given f (s .args .day) (s .args .ms) (zero-number p)
+    by-parts r (simp (x-back, y-back)) (simp (x-back, y-back)) ut1-back refl
+    ∙ ap earthAnswer (v .earth-in .ensures .0 ∙ ap (earthIn f) t)
+    ∙ given f (s .args .day) (s .args .ms) (zero-number p)
 
 pub orientation-spec : {M : Type 1} → statement M
 orientation-spec =

@@ -1,30 +1,32 @@
 -- `delay::samples` meets its contract.
 use mathlib.Core.Path.{_≡_, refl, sym, ap, subst, _∙_}
-use mathlib.Core.Bool.{Bool, true, false, _&&_, cond}
-use mathlib.Core.List.{List, [], _∷_, _++_}
+use mathlib.Core.Bool.{true, false}
+use mathlib.Core.List.{List, _++_}
 use Prim.Native.Nat.{ℕ, _≤_, _<_}
 use native.Mathlib.Omega.{arith}
 use borrow.Author.Needs.{needs}
-use borrow.Author.Tests.{ne-eqb, lt-ltb, le-ltb, le-leb, lt-leb}
-use lib.Dec.{eqb, leb, ltb}
+use borrow.Author.Tests.{ne-eqb, lt-ltb, le-ltb, le-leb, lt-leb, not-false}
+use lib.Dec.{leb, ltb}
 use lib.ListN.{length, drop}
-use lib.IntN.{ℤ, pos, natAbs}
+use lib.IntN.{ℤ, natAbs}
 use mir.Syntax.{w64}
 use mir.Val.{toZ, ofZ}
-use Rattle.whole.proofs.Linear.{back, ret}
+use Rattle.whole.proofs.Linear.{ret}
 use Rattle.whole.proofs.Tests.{passed, failed}
-use Rattle.earth.specs.declared.NumberAnswer.{NumberAnswer}
 use Rattle.session.specs.declared.Pass.{Pass}
 use Rattle.sections.specs.File.{refusalOf, countOf}
 use Rattle.session.specs.Records.{passOf, stationBy, sourceBy}
-use Rattle.delay.specs.declared.plane.Baseline.{Baseline}
-use Rattle.delay.specs.declared.plane.Direction.{Direction}
+use Rattle.wave.specs.declared.Sight.{Sight}
+use Rattle.wave.specs.Bounds.{InStation, InSource}
+use Rattle.wave.specs.Keeping.{sightOf}
+use Rattle.wave.proofs.Sights.{seen-between}
+use Rattle.delay.specs.declared.records.Named.{Named}
 use Rattle.delay.specs.Bounds.{InPass}
 use Rattle.delay.specs.Calls.{allThere, allCovered, samplesOf, firstValues, number, noNumber, delayIn, sampleIn, samplesNumber, samplesOutcome, samplesRoom}
-use Rattle.delay.specs.PlaneWave.{directionOf}
-use Rattle.delay.specs.Sessions.{baselineOf, angleFor, delayBetween, delayAt, sampleEpoch}
-use Rattle.delay.proofs.Accepted.{pass-in}
-use Rattle.delay.proofs.Epochs.{samples-back, samples-cast}
+use Rattle.delay.specs.Keeping.{namedBy, delayAt}
+use Rattle.delay.specs.Sessions.{earthIn, sampleEpoch}
+use Rattle.delay.proofs.Accepted.{pass-in, names-in}
+use Rattle.delay.proofs.Epochs.{samples-count, samples-back, samples-read, samples-cast}
 use Rattle.delay.proofs.Lowest.{file-first, index-first, pass-names-first, days-first}
 use Rattle.delay.proofs.Written.{room-length}
 use Rattle.delay.proofs.samples.Statement.{statement}
@@ -41,9 +43,9 @@ module _ (s : List ℕ) (i : ℕ) (room : List ℤ) (n : ℕ) (e : samplesNumber
   stays = sym (rw (e, ne-eqb n 0 g) refl)
 
 module _ (s : List ℕ) (i : ℕ) (room : List ℤ) (e : samplesNumber s i (length room) ≡ 0) where
-  given : number (passOf s i .samples) ≡ samplesOutcome s i (length room)
+  given : {v : ℤ} → v ≡ passOf s i .samples → number v ≡ samplesOutcome s i (length room)
   unfolding samplesOutcome
-  given = sym (rw e refl)
+  given f = ap number f ∙ sym (rw e refl)
 
   written : firstValues (samplesOf (passOf s i)) (sampleIn s (passOf s i)) ++ drop (samplesOf (passOf s i)) room ≡ samplesRoom s i room
   unfolding samplesRoom
@@ -143,26 +145,29 @@ module _ (c : tie.After-struct-told3) where
   source-back : toZ w64 (ofZ w64 (got .pass-of .result .source)) ≡ pass e2 .source
   source-back = ret (got .pass-of .result .source) (c .struct-told3 .given .1 .1 .1 .0 .1) ∙ ap (λ (x : Pass). x .source) (got .pass-of .ensures)
 
-sight-by-requires : tie.Need-sight-by-requires
-sight-by-requires c κs = accepted (e1 (e2 c))
+named-by-requires : tie.Need-named-by-requires
+named-by-requires c κs = accepted (e1 (e2 c))
 
 no-number-requires-3 : tie.Need-no-number-requires-3
 no-number-requires-3 c κs = search needs
 
-module _ (c : tie.After-sight-by) where
+module _ (c : tie.After-named-by) where
   abbrev t : tie.After-struct-told3
   t = c .before
 
   abbrev q : tie.Else2
   q = e2 t
 
-  found-is : c .sight-by .result .found ≡ allThere (file (k q)) (pass q .station1) (pass q .station2) (pass q .source)
-  found-is = c .sight-by .ensures .found-is ∙ simp (first-back t, second-back t, source-back t)
+  names-are : c .named-by .result ≡ namedBy (file (k q)) (pass q .station1) (pass q .station2) (pass q .source)
+  names-are = simp (first-back t, second-back t, source-back t) at (c .named-by .ensures)
+
+  found-is : c .named-by .result .found ≡ allThere (file (k q)) (pass q .station1) (pass q .station2) (pass q .source)
+  found-is = ap (λ (n : Named). n .found) names-are
 
 returns-3 : tie.Need-returns-3
 unfolding samplesNumber
 returns-3 c =
-    let o = c .before .before .before in
+    let o = c .before .before in
     let j = q o in
     let f = file (k j) in
     let h = failed (found-is o) (c .before .if3 .taken) in
@@ -170,14 +175,11 @@ returns-3 c =
     (c .no-number3 .ensures ∙ refused f (i (k j)) (room (k j)) 5 n (λ z. omega arith), stays f (i (k j)) (room (k j)) 5 n (λ z. omega arith))
 
 module _ (c : tie.Else3) where
-  abbrev o3 : tie.After-sight-by
-  o3 = c .before .before
-
-  is-found : o3 .sight-by .result .found ≡ true
-  is-found = passed refl (c .if3 .left)
+  abbrev o3 : tie.After-named-by
+  o3 = c .before
 
   there : allThere (file (k (q o3))) (pass (q o3) .station1) (pass (q o3) .station2) (pass (q o3) .source) ≡ true
-  there = sym (found-is o3) ∙ is-found
+  there = passed (found-is o3) (c .if3 .left)
 
   pass-is : got (t o3) .pass-of .result ≡ pass (q o3)
   pass-is = got (t o3) .pass-of .ensures
@@ -191,20 +193,10 @@ no-number-requires-4 c κs = search needs
 covered-is : (c : tie.After-all-covered) → c .all-covered .result ≡ allCovered (file (k (q (o3 (c .before))))) (pass (q (o3 (c .before))))
 covered-is c = c .all-covered .ensures ∙ ap (allCovered (file (k (q (o3 (c .before)))))) (pass-is (c .before))
 
-returns-4 : tie.Need-returns-4
-unfolding samplesNumber
-returns-4 c =
-    let a = c .before .before in
-    let j = q (o3 (a .before)) in
-    let f = file (k j) in
-    let h = failed (covered-is a) (c .before .if4 .taken) in
-    let n : samplesNumber f (i (k j)) (length (room (k j))) ≡ 6 = rw (accepted (e1 j), index-ok j, there (a .before), h) (days-first (leb (samplesOf (pass j)) (length (room (k j))))) in
-    (c .no-number4 .ensures ∙ refused f (i (k j)) (room (k j)) 6 n (λ z. omega arith), stays f (i (k j)) (room (k j)) 6 n (λ z. omega arith))
-
 -- past the test of the days
-module _ (c : tie.After-struct-told4) where
+module _ (c : tie.Else4) where
   abbrev a4 : tie.After-all-covered
-  a4 = c .before .before .before
+  a4 = c .before
 
   abbrev e3 : tie.Else3
   e3 = a4 .before
@@ -215,17 +207,33 @@ module _ (c : tie.After-struct-told4) where
   abbrev taken : Pass
   taken = got (t (o3 e3)) .pass-of .result
 
+  days-there : allCovered (file (k q4)) (pass q4) ≡ true
+  days-there = not-false _ (simp (covered-is a4, found-is (o3 e3)) at (c .if4 .left))
+
   taken-in : InPass taken
   taken-in = rw (pass-is e3) (in-pass q4)
 
-  days-there : allCovered (file (k q4)) (pass q4) ≡ true
-  days-there = passed (covered-is a4) (c .before .before .if4 .left)
-
   count-is : natAbs (toZ w64 (ofZ w64 (taken .samples))) ≡ samplesOf (pass q4)
-  count-is = ap natAbs (samples-back taken taken-in) ∙ ap samplesOf (pass-is e3)
+  count-is = samples-read taken taken-in ∙ ap samplesOf (pass-is e3)
 
-cast-k : tie.Need-cast-k
-cast-k c = samples-cast (taken c) (taken-in c)
+  some : 1 ≤ samplesOf (pass q4)
+  some = samples-count (pass q4) (in-pass q4) .0
+
+returns-4 : tie.Need-returns-4
+unfolding samplesNumber
+returns-4 c =
+    let a = c .before .before in
+    let j = q (o3 (a .before)) in
+    let f = file (k j) in
+    let h = failed (covered-is a) (c .before .if4 .taken) in
+    let n : samplesNumber f (i (k j)) (length (room (k j))) ≡ 6 = rw (accepted (e1 j), index-ok j, there (a .before), h) (days-first (leb (samplesOf (pass j)) (length (room (k j))))) in
+    (c .no-number4 .ensures ∙ refused f (i (k j)) (room (k j)) 6 n (λ z. omega arith), stays f (i (k j)) (room (k j)) 6 n (λ z. omega arith))
+
+cast-last : tie.Need-cast-last
+cast-last c = let e = c .before .before in samples-cast (taken e) (taken-in e)
+
+sub-last : tie.Need-sub-last
+sub-last c = let e = c .before .before in rw (count-is e) (some e)
 
 no-number-requires-5 : tie.Need-no-number-requires-5
 no-number-requires-5 c κs = search needs
@@ -233,70 +241,88 @@ no-number-requires-5 c κs = search needs
 returns-5 : tie.Need-returns-5
 unfolding samplesNumber
 returns-5 c =
-    let o = c .before .before in
+    let o = c .before .before .before .before in
     let j = q4 o in
     let f = file (k j) in
-    let h : leb (samplesOf (pass j)) (length (room (k j))) ≡ false = lt-leb (samplesOf (pass j)) (length (room (k j))) (rw (count-is o) at (c .before .if5 .taken)) in
+    let l = rw (count-is o) at (c .before .if5 .taken) in
+    let h : leb (samplesOf (pass j)) (length (room (k j))) ≡ false = lt-leb (samplesOf (pass j)) (length (room (k j))) (omega (arith, some o, l)) in
     let n : samplesNumber f (i (k j)) (length (room (k j))) ≡ 7 = rw (accepted (e1 j), index-ok j, there (e3 o), days-there o, h) refl in
     (c .no-number5 .ensures ∙ refused f (i (k j)) (room (k j)) 7 n (λ z. omega arith), stays f (i (k j)) (room (k j)) 7 n (λ z. omega arith))
 
 module _ (c : tie.Else5) where
-  abbrev o5 : tie.After-struct-told4
-  o5 = c .before
+  abbrev o5 : tie.Else4
+  o5 = c .before .before .before
 
   abbrev j5 : tie.Else2
   j5 = q4 o5
 
   enough : samplesOf (pass j5) ≤ length (room (k j5))
-  enough = rw (count-is o5) at (c .if5 .left)
+  enough = let l = rw (count-is o5) at (c .if5 .left) in omega (arith, some o5, l)
 
   zero-number : samplesNumber (file (k j5)) (i (k j5)) (length (room (k j5))) ≡ 0
   unfolding samplesNumber
   zero-number = rw (accepted (e1 j5), index-ok j5, there (e3 o5), days-there o5, le-leb (samplesOf (pass j5)) (length (room (k j5))) enough) refl
 
+  abbrev names : Named
+  names = o3 (e3 o5) .named-by .result
+
+sight-of-requires : tie.Need-sight-of-requires
+sight-of-requires c κs =
+    let e = c .before .before .before in
+    let o = o3 (e3 (o5 e)) in
+    let p = pass (q o) in
+    subst (λ (n : Named). InStation (n .first) × InStation (n .second) × InSource (n .source)) (sym (names-are o))
+    (names-in (file (k (q o))) (accepted (e1 (q o))) (p .station1) (p .station2) (p .source) (there (e3 (o5 e))))
+
 write-samples-requires : tie.Need-write-samples-requires
 write-samples-requires c κs =
-    let e = c .before .before .before in
-    let o = o5 e in
-    let g = o3 (e3 o) .sight-by .ensures in (
-      (accepted (e1 (j5 e)), taken-in o, ap (allCovered (file (k (j5 e)))) (pass-is (e3 o)) ∙ days-there o, g .short, g .turned),
+    let v = c .before in
+    let e = v .before .before .before .before in
+    let o = o5 e in (
+      (accepted (e1 (j5 e)), taken-in o, ap (allCovered (file (k (j5 e)))) (pass-is (e3 o)) ∙ days-there o, v .sight-of .ensures .1),
       rw (pass-is (e3 o)) (enough e),
     )
 
 module _ (c : tie.After-write-samples) where
-  abbrev e5 : tie.Else5
-  e5 = c .before .before .before .before
+  abbrev v6 : tie.After-sight-of
+  v6 = c .before .before
 
-  abbrev sees : tie.After-sight-by
-  sees = o3 (e3 (o5 e5))
+  abbrev e5 : tie.Else5
+  e5 = v6 .before .before .before .before
 
   abbrev j6 : tie.Else2
   j6 = j5 e5
 
-  baseline-is : sees .sight-by .result .baseline ≡ baselineOf (stationBy (file (k j6)) (pass j6 .station1)) (stationBy (file (k j6)) (pass j6 .station2))
-  baseline-is = sees .sight-by .ensures .baseline-is (is-found (e3 (o5 e5))) ∙ simp (first-back (t sees), second-back (t sees))
+  abbrev f6 : List ℕ
+  f6 = file (k j6)
 
-  direction-is : sees .sight-by .result .direction ≡ directionOf (sourceBy (file (k j6)) (pass j6 .source) .«right_ascension») (sourceBy (file (k j6)) (pass j6 .source) .declination)
-  direction-is = sees .sight-by .ensures .direction-is (is-found (e3 (o5 e5))) ∙ simp (source-back (t sees))
+  abbrev sight : Sight
+  sight = sightOf (stationBy f6 (pass j6 .station1)) (stationBy f6 (pass j6 .station2)) (sourceBy f6 (pass j6 .source))
+
+  sight-is : v6 .sight-of .result ≡ sight
+  sight-is = v6 .sight-of .ensures .0 ∙ ap (λ (n : Named). sightOf (n .first) (n .second) (n .source)) (names-are (o3 (e3 (o5 e5))))
 
   -- what the loop wrote are the samples of the pass
-  abbrev values : Pass → Baseline → Direction → List ℤ
-  values p b d = firstValues (samplesOf p) (λ (n : ℕ). delayAt (file (k j6)) b d (sampleEpoch p n)) ++ drop (samplesOf p) (room (k j6))
+  abbrev values : Pass → Sight → List ℤ
+  values p v = firstValues (samplesOf p) (λ (n : ℕ). delayAt f6 v (sampleEpoch p n)) ++ drop (samplesOf p) (room (k j6))
 
-  same : values (taken (o5 e5)) (sees .sight-by .result .baseline) (sees .sight-by .result .direction) ≡ samplesRoom (file (k j6)) (i (k j6)) (room (k j6))
-  unfolding sampleIn delayIn delayBetween angleFor delayAt
+  each : (n : ℕ) → delayAt f6 sight (sampleEpoch (pass j6) n) ≡ sampleIn f6 (pass j6) n
+  unfolding sampleIn delayIn delayAt
+  each n = seen-between (stationBy f6 (pass j6 .station1)) (stationBy f6 (pass j6 .station2)) (sourceBy f6 (pass j6 .source)) (earthIn f6 (sampleEpoch (pass j6) n))
+
+  same : values (taken (o5 e5)) (v6 .sight-of .result) ≡ samplesRoom f6 (i (k j6)) (room (k j6))
   same =
-      ap (λ (p : Pass). values p (sees .sight-by .result .baseline) (sees .sight-by .result .direction)) (pass-is (e3 (o5 e5)))
-      ∙ ap (λ (b : Baseline). values (pass j6) b (sees .sight-by .result .direction)) baseline-is
-      ∙ ap (λ (d : Direction). values (pass j6) (baselineOf (stationBy (file (k j6)) (pass j6 .station1)) (stationBy (file (k j6)) (pass j6 .station2))) d) direction-is
-      ∙ written (file (k j6)) (i (k j6)) (room (k j6)) (zero-number e5)
+      ap (λ (p : Pass). values p (v6 .sight-of .result)) (pass-is (e3 (o5 e5)))
+      ∙ ap (values (pass j6)) sight-is
+      ∙ ap (λ (g : ℕ → ℤ). firstValues (samplesOf (pass j6)) g ++ drop (samplesOf (pass j6)) (room (k j6))) (λ x n. each n x)
+      ∙ written f6 (i (k j6)) (room (k j6)) (zero-number e5)
 
 same-length : tie.Need-same-length
 same-length c =
     let w = c .before .before in
     let e = e5 w in
     ap length (w .write-samples .ensures)
-    ∙ room-length (samplesOf (taken (o5 e))) (λ (n : ℕ). delayAt (file (k (j6 w))) (sees w .sight-by .result .baseline) (sees w .sight-by .result .direction) (sampleEpoch (taken (o5 e)) n)) (room (k (j6 w))) (subst (λ (p : Pass). samplesOf p ≤ length (room (k (j6 w)))) (sym (pass-is (e3 (o5 e)))) (enough e))
+    ∙ room-length (samplesOf (taken (o5 e))) (λ (n : ℕ). delayAt (f6 w) (v6 w .sight-of .result) (sampleEpoch (taken (o5 e)) n)) (room (k (j6 w))) (subst (λ (p : Pass). samplesOf p ≤ length (room (k (j6 w)))) (sym (pass-is (e3 (o5 e)))) (enough e))
 
 returns-6 : tie.Need-returns-6
 returns-6 c =
@@ -304,8 +330,7 @@ returns-6 c =
     let e = e5 w in
     let j = j6 w in
     let z = samples-back (taken (o5 e)) (taken-in (o5 e)) ∙ ap (λ (x : Pass). x .samples) (pass-is (e3 (o5 e))) in
-    let n : _≡_ {A = NumberAnswer} (record { refusal = pos 0; value = toZ w64 (ofZ w64 (taken (o5 e) .samples)) }) (number (pass j .samples)) = λ x. record { refusal = pos 0; value = z x } in
-    (n ∙ given (file (k j)) (i (k j)) (room (k j)) (zero-number e), w .write-samples .ensures ∙ same w)
+    (given (f6 w) (i (k j)) (room (k j)) (zero-number e) z, w .write-samples .ensures ∙ same w)
 
 pub samples-spec : {M : Type 1} → statement M
 samples-spec =
@@ -318,15 +343,17 @@ samples-spec =
     no-number-requires-2
     returns-2
     pass-of-requires
-    sight-by-requires
+    named-by-requires
     no-number-requires-3
     returns-3
     all-covered-requires
     no-number-requires-4
     returns-4
-    cast-k
+    cast-last
+    sub-last
     no-number-requires-5
     returns-5
+    sight-of-requires
     write-samples-requires
     same-length
     returns-6)

@@ -1,42 +1,35 @@
 -- `delay::pass::write_samples` meets its contract.
-use mathlib.Core.Path.{_≡_, refl, sym, ap, subst, _∙_}
+use mathlib.Core.Path.{_≡_, refl, sym, ap, _∙_}
 use mathlib.Core.Bool.{true}
 use mathlib.Core.List.{List, _++_}
-use Prim.Native.Nat.{ℕ, zero, suc, _+_, _-_, _≤_, _<_}
+use Prim.Native.Nat.{ℕ, suc, _+_, _-_, _≤_, _<_}
 use native.Mathlib.Numerals.{add-one}
 use native.Mathlib.Omega.{arith}
-use borrow.Author.Needs.{needs}
-use lib.ListN.{length, drop, set, length-set, length-append, length-drop}
-use lib.IntN.{ℤ, pos, natAbs, _*ℤ_}
+use lib.ListN.{length, drop, set}
+use lib.IntN.{ℤ}
 use mir.Syntax.{w64}
 use mir.Val.{toZ, ofZ}
 use Rattle.whole.proofs.Linear.{ret}
-use Rattle.earth.specs.declared.time.Epoch.{Epoch}
 use Rattle.session.specs.declared.Pass.{Pass}
-use Rattle.sections.proofs.Search.{below-each}
-use Rattle.delay.specs.declared.plane.Baseline.{Baseline}
-use Rattle.delay.specs.declared.plane.Direction.{Direction}
-use Rattle.delay.specs.Bounds.{InPass}
+use Rattle.whole.proofs.Each.{below-each}
+use Rattle.wave.specs.declared.Sight.{Sight}
 use Rattle.delay.specs.Calls.{samplesOf, allCovered, firstValues}
-use Rattle.delay.specs.Keeping.{TrueKept}
-use Rattle.delay.specs.Sessions.{covers, sampleEpoch, delayAt}
-use Rattle.delay.proofs.Epochs.{samples-count, samples-back, samples-cast, mjd-small, sample-ms}
+use Rattle.delay.specs.Keeping.{TrueKept, delayAt}
+use Rattle.delay.specs.Sessions.{covers, sampleEpoch}
+use Rattle.delay.proofs.Epochs.{samples-count, samples-read, samples-cast, mjd-small, sample-ms}
 use Rattle.delay.proofs.Written.{room-length, value-next}
 use Rattle.delay.proofs.pass.write_samples.Statement.{statement}
 use Rattle.delay.proofs.pass.write_samples.Tie as tie
 
 -- sample j
-abbrev value : List ℕ → Pass → Baseline → Direction → ℕ → ℤ
-value s p b d j = delayAt s b d (sampleEpoch p j)
+abbrev value : List ℕ → Pass → Sight → ℕ → ℤ
+value s p v j = delayAt s v (sampleEpoch p j)
 
 abbrev Inv-loop : tie.InvT-loop
-Inv-loop s p b d room₀ n kept₀ i₀ room kept i = (i ≤ n) × (room ≡ firstValues i (value s p b d) ++ drop i room₀) × TrueKept s kept
+Inv-loop s p v room₀ n kept₀ i₀ room kept i = (i ≤ n) × (room ≡ firstValues i (value s p v) ++ drop i room₀) × TrueKept s kept
 
 abbrev μ-loop : tie.MeasureT-loop
-μ-loop s p b d room₀ n kept₀ i₀ room kept i = n - i
-
-bound : (p : Pass) → InPass p → natAbs (toZ w64 (ofZ w64 (p .samples))) ≡ samplesOf p
-bound p h = ap natAbs (samples-back p h)
+μ-loop s p v room₀ n kept₀ i₀ room kept i = n - i
 
 cast-n : tie.Need-cast-n Inv-loop μ-loop
 cast-n c = let s = c .before .before .before in samples-cast (s .args .p) (s .pre .0 .1)
@@ -56,7 +49,7 @@ module _ (c : tie.In-loop Inv-loop μ-loop) where
   i = c .before .loop .i
 
   within : i < samplesOf (start .args .p)
-  within = rw (bound (start .args .p) (start .pre .0 .1)) at (c .loop-test .taken)
+  within = rw (samples-read (start .args .p) (start .pre .0 .1)) at (c .loop-test .taken)
 
   few : i < 4096
   few = let h = samples-count (start .args .p) (start .pre .0 .1) .1 in let l = within in omega arith
@@ -77,19 +70,19 @@ sample-at-requires : tie.Need-sample-at-requires Inv-loop μ-loop
 sample-at-requires c κs =
     let b = c .before in
     let s = start b in (
-      (s .pre .0 .0, b .before .loop .inv .2, s .pre .0 .3, s .pre .0 .4),
+      (s .pre .0 .0, b .before .loop .inv .2, s .pre .0 .3),
       (rw (c .sample-epoch .ensures) (covered b), rw (c .sample-epoch .ensures) (sample-ms (s .args .p) (i b))),
     )
 
-mul-v : tie.Need-mul-v Inv-loop μ-loop
-mul-v c = let h = few (c .before .before .before) in record { fits = omega arith }
+mul-delay : tie.Need-mul-delay Inv-loop μ-loop
+mul-delay c = let h = few (c .before .before .before) in record { fits = omega arith }
 
-slice-set-from-v : tie.Need-slice-set-from-v Inv-loop μ-loop
-slice-set-from-v c =
+slice-set-from-delay : tie.Need-slice-set-from-delay Inv-loop μ-loop
+slice-set-from-delay c =
     let b = c .before .before .before in
     let s = start b in
     let l = room-long b in
-    let e = ap length (b .before .loop .inv .1) ∙ room-length (i b) (value (s .args .s .now) (s .args .p) (s .args .b) (s .args .d)) (s .args .room .now) (omega arith) in
+    let e = ap length (b .before .loop .inv .1) ∙ room-length (i b) (value (s .args .s .now) (s .args .p) (s .args .v)) (s .args .room .now) (omega arith) in
     omega arith
 
 add-i : tie.Need-add-i Inv-loop μ-loop
@@ -105,12 +98,12 @@ loop-again c =
     let e = a .before in
     let b = e .before in
     let s = start b in
-    let f = value (s .args .s .now) (s .args .p) (s .args .b) (s .args .d) in
+    let f = value (s .args .s .now) (s .args .p) (s .args .v) in
     let l = b .loop-test .taken in
     let v : toZ w64 (ofZ w64 (a .sample-at .result .delay)) ≡ f (i b) =
     ret (a .sample-at .result .delay) (t .struct-told3 .given .0 .1)
     ∙ a .sample-at .ensures .0
-    ∙ ap (delayAt (s .args .s .now) (s .args .b) (s .args .d)) (e .sample-epoch .ensures) in
+    ∙ ap (delayAt (s .args .s .now) (s .args .v)) (e .sample-epoch .ensures) in
     let r : set (b .before .loop .room) (i b) (toZ w64 (ofZ w64 (a .sample-at .result .delay))) ≡ firstValues (suc (i b)) f ++ drop (suc (i b)) (s .args .room .now) =
     ap (λ (x : List ℤ). set x (i b) (toZ w64 (ofZ w64 (a .sample-at .result .delay)))) (b .before .loop .inv .1)
     ∙ ap (set (firstValues (i b) f ++ drop (i b) (s .args .room .now)) (i b)) v
@@ -125,19 +118,19 @@ module _ (c : tie.After-loop Inv-loop μ-loop) where
   done =
       let h = c .before .loop .inv .0 in
       let k = c .loop-test .left in
-      omega (arith, bound (entry .args .p) (entry .pre .0 .1))
+      omega (arith, samples-read (entry .args .p) (entry .pre .0 .1))
 
 same-length : tie.Need-same-length Inv-loop μ-loop
 same-length c =
     let s = entry c in
     let h : c .before .loop .i ≤ length (s .args .room .now) = let e = done c in let l = s .pre .1 in omega arith in
-    ap length (c .before .loop .inv .1) ∙ room-length (c .before .loop .i) (value (s .args .s .now) (s .args .p) (s .args .b) (s .args .d)) (s .args .room .now) h
+    ap length (c .before .loop .inv .1) ∙ room-length (c .before .loop .i) (value (s .args .s .now) (s .args .p) (s .args .v)) (s .args .room .now) h
 
 returns : tie.Need-returns Inv-loop μ-loop
 returns c =
     let s = entry c in
     c .before .loop .inv .1
-    ∙ ap (λ (n : ℕ). firstValues n (value (s .args .s .now) (s .args .p) (s .args .b) (s .args .d)) ++ drop n (s .args .room .now)) (done c)
+    ∙ ap (λ (n : ℕ). firstValues n (value (s .args .s .now) (s .args .p) (s .args .v)) ++ drop n (s .args .room .now)) (done c)
 
 pub write-samples-spec : {M : Type 1} → statement M
 write-samples-spec =
@@ -150,8 +143,8 @@ write-samples-spec =
     loop-holds
     sample-epoch-requires
     sample-at-requires
-    mul-v
-    slice-set-from-v
+    mul-delay
+    slice-set-from-delay
     add-i
     loop-less
     loop-again

@@ -1,2 +1,0 @@
--- `allBelow` and `firstNot` of crate `whole`, passed on.
-unfoldable pub use Rattle.whole.specs.Each.{allBelow, firstNot}

@@ -1,0 +1,82 @@
+-- Laws of the day values: what a caller may lean on, whatever the line of UT1-UTC is. Assumes nothing.
+use mathlib.Core.Path.{_≡_, refl, ap, _∙_}
+use Prim.Native.Nat.{ℕ, _+_, _≤_, _<_}
+use native.Mathlib.Nat.{le-trans}
+use native.Mathlib.Omega.{arith}
+use lib.Dec.{lit≤}
+use lib.IntN.{ℤ, pos, _+ℤ_, _-ℤ_, _*ℤ_}
+use lib.Signed.{_≤ℤ_}
+use Rattle.whole.specs.Whole.{∣_∣, R, line, floorZ}
+use Rattle.whole.proofs.Linear.{zarith, parts-le, abs-add, in-le}
+use Rattle.whole.proofs.Quote.{⟨_⟩, #, _⊕_, _⊝_, _⊗_, ⊖, by≡, by≤, of≤, of<}
+use Rattle.whole.proofs.Rounding.{line-size, floor-lo, floor-hi}
+use Rattle.earth.specs.Ranges.{InMs, InF}
+use Rattle.earth.specs.declared.time.Epoch.{Epoch}
+use Rattle.earth.specs.TideInUT1.{tideOf}
+use Rattle.earth.proofs.TideInUT1.{tide-most}
+use Rattle.session.specs.declared.Day.{Day}
+use Rattle.wave.specs.Bounds.{InRecord, InEarth}
+use Rattle.wave.specs.DayValues.{ut1rOf, ut1Line, ut1Used, fOf, earthOf}
+
+pub ms-lo : {u : ℤ} → InMs u → pos 0 ≤ℤ u
+ms-lo {u} h = parts-le (pos 0) u (h .p-lo) (h .n-lo)
+
+pub ms-hi : {u : ℤ} → InMs u → u ≤ℤ pos 86399999
+ms-hi {u} h = parts-le u (pos 86399999) (h .p-hi) (h .n-hi)
+
+ms-day : {u : ℤ} → InMs u → u ≤ℤ pos 86400000
+ms-day {u} h = omega (zarith, ms-hi h)
+
+-- a field of two records, between them
+pub between-size : (v0 v1 u : ℤ) (k : ℕ) → InMs u → ∣ v0 ∣ ≤ k → ∣ v1 ∣ ≤ k → ∣ line v0 v1 u ∣ ≤ k
+between-size v0 v1 u k h a b = line-size v0 v1 u k (ms-lo h) (ms-day h) a b
+
+-- the UT1R that a record gives, by the range of its field
+pub ut1r-size : (r : Day) → ∣ r .«ut1_utc» ∣ ≤ 900000000 → ∣ ut1rOf r ∣ ≤ 902723000
+unfolding ut1rOf
+ut1r-size r h = le-trans h (lit≤ tt)
+
+-- where TAI-UTC stays the same the line goes from one record's UT1R to the next's
+pub ut1-same : (r0 r1 : Day) (u : ℤ) → r0 .«tai_utc» ≡ r1 .«tai_utc» → ut1Line r0 r1 u ≡ line (ut1rOf r0) (ut1rOf r1) u
+unfolding ut1Line
+ut1-same r0 r1 u e = refl
+
+-- the tide added at both ends is added to the line
+pub ends-moved : (v0 v1 u t : ℤ) → line (v0 +ℤ t) (v1 +ℤ t) u ≡ line v0 v1 u +ℤ t
+ends-moved v0 v1 u t =
+    let d : v1 +ℤ t -ℤ (v0 +ℤ t) ≡ v1 -ℤ v0 = by≡ (⟨ v1 ⟩ ⊕ ⟨ t ⟩ ⊝ (⟨ v0 ⟩ ⊕ ⟨ t ⟩)) (⟨ v1 ⟩ ⊝ ⟨ v0 ⟩) (omega arith) in
+    let q = R ((v1 -ℤ v0) *ℤ u) 86400000 in
+    ap (λ (z : ℤ). v0 +ℤ t +ℤ R (z *ℤ u) 86400000) d ∙ by≡ (⟨ v0 ⟩ ⊕ ⟨ t ⟩ ⊕ ⟨ q ⟩) (⟨ v0 ⟩ ⊕ ⟨ q ⟩ ⊕ ⟨ t ⟩) (omega arith)
+
+-- its size, with room for a step of TAI-UTC between two days
+pub ut1-line-size : (r0 r1 : Day) (u : ℤ) → InRecord r0 → InRecord r1 → InMs u → ∣ ut1Line r0 r1 u ∣ ≤ 99902723000
+unfolding ut1Line
+ut1-line-size r0 r1 u a b h = le-trans (between-size (ut1rOf r0) (ut1rOf r1) u 902723000 h (a .ut1-size) (b .ut1-size)) (lit≤ tt)
+
+pub tide-size : (e : Epoch) (L : ℤ) → ∣ tideOf e L ∣ ≤ 2723000
+unfolding tideOf
+tide-size e L = tide-most _
+
+pub ut1-used-size : (r0 r1 : Day) (e : Epoch) → InRecord r0 → InRecord r1 → InMs (e .ms) → ∣ ut1Used r0 r1 e ∣ ≤ 99905446000
+unfolding ut1Used
+ut1-used-size r0 r1 e a b h =
+    omega (arith, abs-add (ut1Line r0 r1 (e .ms)) (tideOf e (r0 .«tai_utc»)), ut1-line-size r0 r1 (e .ms) a b h, tide-size e (r0 .«tai_utc»))
+
+-- f lies in the rotation angle's range
+pub f-in : (u ut1 : ℤ) → InMs u → ∣ ut1 ∣ ≤ 99905446000 → InF (fOf u ut1)
+f-in u ut1 h k =
+    let q = floorZ ut1 1000 in
+    let l = of≤ (⟨ q ⟩ ⊗ # 1000) ⟨ ut1 ⟩ (floor-lo ut1 1000 (omega arith)) in
+    let r = of< ⟨ ut1 ⟩ (⟨ q ⟩ ⊗ # 1000 ⊕ # 1000) (floor-hi ut1 1000 (omega arith)) in
+    in-le
+    (by≤ (⊖ (# 100000000)) (# 1000 ⊗ ⟨ u ⟩ ⊕ ⟨ q ⟩) (omega arith))
+    (by≤ (# 1000 ⊗ ⟨ u ⟩ ⊕ ⟨ q ⟩) (# 86500000000) (omega arith))
+
+-- the pole at an epoch
+pub earth-size : (r0 r1 : Day) (e : Epoch) → InRecord r0 → InRecord r1 → InMs (e .ms) → InEarth (earthOf r0 r1 e)
+unfolding earthOf
+earth-size r0 r1 e a b h =
+    record {
+      x-size = between-size (r0 .x) (r1 .x) (e .ms) 1000000 h (a .x-size) (b .x-size);
+      y-size = between-size (r0 .y) (r1 .y) (e .ms) 1000000 h (a .y-size) (b .y-size);
+    }

@@ -1,0 +1,4 @@
+pub mod DayLaws
+pub mod Sights
+pub mod Sizes
+pub mod Swapped

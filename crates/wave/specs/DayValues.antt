@@ -1,0 +1,34 @@
+-- Document 01, 'Day values' and 'Rotation angle': what an epoch's two orientation records give at the epoch.
+use lib.IntN.{ℤ, pos, _+ℤ_, _*ℤ_}
+use Rattle.whole.specs.Whole.{line, floorZ}
+use Rattle.earth.specs.declared.time.Epoch.{Epoch}
+use Rattle.earth.specs.TideInUT1.{tideOf}
+use Rattle.earth.specs.Angle.{eraOf}
+use Rattle.session.specs.declared.Day.{Day}
+use Rattle.wave.specs.declared.values.Earth.{Earth}
+
+-- "UT1-UTC in the file is UT1R, with the short tide removed": the UT1R that a record gives is its field.
+unfoldable pub ut1rOf : Day → ℤ
+ut1rOf r = r .«ut1_utc»
+
+-- "Each of x, y, UT1-UTC is v0 + R((v1 - v0)·u / 86,400,000)": the line of UT1-UTC from record d to record d+1, at u.
+unfoldable pub ut1Line : Day → Day → ℤ → ℤ
+ut1Line r0 r1 u = line (ut1rOf r0) (ut1rOf r1) u
+
+-- "UT1-UTC used = day value + tide"; "TAI-UTC, called L, is that of record d."
+unfoldable pub ut1Used : Day → Day → Epoch → ℤ
+ut1Used r0 r1 e = ut1Line r0 r1 (e .ms) +ℤ tideOf e (r0 .«tai_utc»)
+
+-- "f = 1,000·u + floor(UT1-UTC used / 1,000)"
+abbrev pub fOf : ℤ → ℤ → ℤ
+fOf u ut1 = pos 1000 *ℤ u +ℤ floorZ ut1 1000
+
+-- the pole, UT1-UTC with the tide, and ERA, as used at an epoch
+unfoldable pub earthOf : Day → Day → Epoch → Earth
+earthOf r0 r1 e =
+    record {
+      x = line (r0 .x) (r1 .x) (e .ms);
+      y = line (r0 .y) (r1 .y) (e .ms);
+      «ut1_utc» = ut1Used r0 r1 e;
+      tick = eraOf (e .day) (fOf (e .ms) (ut1Used r0 r1 e));
+    }

@@ -1,0 +1,100 @@
+// What an epoch's two orientation records give at the epoch. Document 01, 'Day values'.
+use earth::Epoch;
+use earth::rows::tide_at_minute;
+use earth::turn::turn_of;
+use session::Day;
+use whole::divide::floor_div;
+use whole::divide::line_at;
+use whole::long::rotation_ticks;
+ghost use mathlib.Core.Path.{_≡_};
+ghost use Prim.Native.Nat.{_^_, _<_, _≤_};
+ghost use lib.IntN.{_+ℤ_};
+ghost use Rattle.whole.specs.Whole.{∣_∣};
+ghost use Rattle.earth.specs.Ranges.{InDay, InMs};
+ghost use Rattle.earth.specs.Angle.{eraOf};
+ghost use Rattle.earth.specs.Minutes.{minutesOf};
+ghost use Rattle.earth.specs.TideInUT1.{tideOf};
+ghost use Rattle.wave.specs.DayValues.{ut1rOf, ut1Line, fOf, earthOf};
+ghost use Rattle.wave.specs.Bounds.{InRecord, InEarth};
+ghost use Rattle.wave.specs.Keeping.{minuteOf, TrueMinute};
+
+// As used at an epoch: the pole, UT1-UTC with the tide, and ERA.
+pub struct Earth {
+    pub x: i64,
+    pub y: i64,
+    pub ut1_utc: i64,
+    pub tick: u32,
+}
+
+// The tide of one minute of TT, kept from one epoch to the next: it changes once a minute.
+pub struct Minute {
+    pub n: i64,
+    pub tide: i64,
+}
+
+// The tide at n, taken from what is kept where that is of the same minute.
+pub fn minute_at(kept: Minute, n: i64) -> Minute
+    requires { ⌜ (∣ n ∣ < 2 ^ 26) × TrueMinute kept ⌝ }
+    ensures { λ r. ⌜ r ≡ minuteOf n ⌝ }
+{
+    if kept.n == n {
+        return kept;
+    }
+    let tide = tide_at_minute(n);
+    Minute { n: n, tide: tide }
+}
+
+// The minute of TT of an epoch, by the TAI-UTC of its day's record.
+pub fn minutes_by(r0: Day, e: Epoch) -> i64
+    requires { ⌜ InRecord r0 × InDay (e .day) × InMs (e .ms) ⌝ }
+    ensures { λ n. ⌜ (n ≡ minutesOf e (r0 .«tai_utc»)) × (∣ n ∣ < 2 ^ 26) ⌝ }
+{
+    e.minutes(r0.tai_utc)
+}
+
+// The UT1-UTC of a record with the tide of an epoch: what it gives is UT1R.
+fn with_tide(r: Day, tide: i64) -> i64
+    requires { ⌜ InRecord r × (∣ tide ∣ ≤ 2723000) ⌝ }
+    ensures { λ v. ⌜ (v ≡ ut1rOf r +ℤ tide) × (∣ v ∣ ≤ 905446000) ⌝ }
+{
+    r.ut1_utc + tide
+}
+
+// UT1-UTC used: the line from one day's record to the next, with the tide at both its ends.
+fn ut1_used(r0: Day, r1: Day, ms: i64, tide: i64) -> i64
+    requires { ⌜ InRecord r0 × InRecord r1 × InMs ms × (∣ tide ∣ ≤ 2723000) ⌝ }
+    ensures { λ r. ⌜ r ≡ ut1Line r0 r1 ms +ℤ tide ⌝ }
+{
+    let v0 = with_tide(r0, tide);
+    let v1 = with_tide(r1, tide);
+    line_at(v0, v1, ms)
+}
+
+// ERA, where this UT1-UTC is used.
+fn era_at(day: i64, ms: i64, ut1: i64) -> u32
+    requires { ⌜ InDay day × InMs ms × (∣ ut1 ∣ ≤ 99905446000) ⌝ }
+    ensures { λ r. ⌜ r ≡ eraOf day (fOf ms ut1) ⌝ }
+{
+    let f = 1000 * ms + floor_div(ut1, 1000);
+    let e = turn_of(day, f);
+    rotation_ticks(e)
+}
+
+// The earth at an epoch, from the records of its day and of the next, and from the tide of its minute.
+pub fn earth_at(r0: Day, r1: Day, e: Epoch, tide: i64) -> Earth
+    requires { ⌜ InRecord r0 × InRecord r1 × InDay (e .day) × InMs (e .ms) ⌝ }
+    requires { ⌜ tide ≡ tideOf e (r0 .«tai_utc») ⌝ }
+    ensures { λ r. ⌜ (r ≡ earthOf r0 r1 e) × InEarth r ⌝ }
+{
+    let ms = e.ms;
+    let x = line_at(r0.x, r1.x, ms);
+    let y = line_at(r0.y, r1.y, ms);
+    let ut1 = ut1_used(r0, r1, ms, tide);
+    let tick = era_at(e.day, ms, ut1);
+    Earth {
+        x: x,
+        y: y,
+        ut1_utc: ut1,
+        tick: tick,
+    }
+}
