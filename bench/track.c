@@ -105,7 +105,8 @@ static struct number nothing(const int64_t *s, size_t n, int64_t t, int64_t *roo
 
 static int64_t samples[MOST], room[4 * MOST];
 
-/* an arc as of a source that passes over, in segments of up to 1,024; an arc with a tight tolerance, in some of tens; noise, in segments of two or three */
+/* an arc as of a source that passes over, in segments of up to 1,024; an arc with a tight tolerance, in some of tens; noise, in segments of two or three;
+   a straight line at tolerance 0, which of some forty such rows (noise, walks, arcs, waves and teeth at tolerances up to the greatest) took ours the most */
 static void arc(size_t n, int64_t height)
 {
 	for (size_t i = 0; i < n; i++) {
@@ -120,14 +121,33 @@ static void noise(size_t n)
 		samples[i] = between(-100000, 100000);
 }
 
+static void line(size_t n)
+{
+	for (size_t i = 0; i < n; i++)
+		samples[i] = 1000 * (int64_t)i;
+}
+
+enum { SMOOTH, CURVED, ROUGH, WORST };
+static const int64_t tolerances[] = {1000000, 1000, 20000, 0};
+
+static void fill(size_t n, int kind)
+{
+	if (kind == ROUGH)
+		noise(n);
+	else if (kind == WORST)
+		line(n);
+	else
+		arc(n, kind == SMOOTH ? 10000000 : 100000000);
+}
+
 static uint64_t run(enum side side, long calls, int kind)
 {
 	struct number (*volatile callee)(const int64_t *, size_t, int64_t, int64_t *, size_t) = side == NOTHING ? nothing : side == OURS ? bench_track : plain_track;
 	uint64_t sum = 0;
 	while (calls > 0) {
 		size_t n = calls < MOST ? calls : MOST;
-		kind == 2 ? noise(n) : arc(n, kind == 0 ? 10000000 : 100000000);
-		struct number a = callee(samples, n, kind == 0 ? 1000000 : kind == 1 ? 1000 : 20000, room, 4 * MOST);
+		fill(n, kind);
+		struct number a = callee(samples, n, tolerances[kind], room, 4 * MOST);
 		sum = sum * 31 + a.refusal * 7 + a.value;
 		for (size_t i = 0; i < 4 * MOST; i++)
 			sum = sum * 31 + room[i];
@@ -136,8 +156,9 @@ static uint64_t run(enum side side, long calls, int kind)
 	return sum;
 }
 
-static uint64_t row_smooth(enum side side, long calls) { return run(side, calls, 0); }
-static uint64_t row_curved(enum side side, long calls) { return run(side, calls, 1); }
-static uint64_t row_rough(enum side side, long calls) { return run(side, calls, 2); }
+static uint64_t row_smooth(enum side side, long calls) { return run(side, calls, SMOOTH); }
+static uint64_t row_curved(enum side side, long calls) { return run(side, calls, CURVED); }
+static uint64_t row_rough(enum side side, long calls) { return run(side, calls, ROUGH); }
+static uint64_t row_worst(enum side side, long calls) { return run(side, calls, WORST); }
 
-MAIN({"smooth", row_smooth}, {"curved", row_curved}, {"rough", row_rough})
+MAIN({"smooth", row_smooth}, {"curved", row_curved}, {"rough", row_rough}, {"worst", row_worst})
