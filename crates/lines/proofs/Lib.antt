@@ -1,3 +1,4 @@
 pub mod Digits
 pub mod Puts
 pub mod Texts
+pub mod Session

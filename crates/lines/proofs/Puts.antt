@@ -6,7 +6,7 @@ use native.Mathlib.Nat.{add-zero, zero-add}
 use native.Mathlib.Numerals.{add-one}
 use native.Mathlib.Omega.{arith}
 use lib.ListN.{length, getD, set, take, drop, length-append, length-set}
-use lib.Seq.{take-suc, length-take-le, set-split, take-set-le, drop-at, append-snoc}
+use lib.Seq.{take-suc, length-take-le, set-split, take-set-le, drop-at, append-snoc, take-append-seam}
 use Rattle.writer.specs.Bytes.{pasted}
 use Rattle.writer.proofs.Paste.{pasted-none, pasted-next, pasted-long}
 use Rattle.lines.specs.Put.{Put}
@@ -27,6 +27,13 @@ module _ {d e bs : List ℕ} {at a : ℕ} (p : Put d at bs e a) (h : a ≤ lengt
 pub put-inside : {d e bs : List ℕ} {a : ℕ} → Put d 0 bs e a → a ≤ length e
 unfolding pasted
 put-inside {d = d} {e = e} {bs = bs} {a = a} p = omega (arith, p .place, ap length (p .bytes), length-append bs (drop (0 + length bs) d))
+
+-- and the bytes stand before it
+pub put-start : {d e bs : List ℕ} {a : ℕ} → Put d 0 bs e a → take a e ≡ bs
+unfolding pasted
+put-start {d = d} {e = e} {bs = bs} {a = a} p =
+    let l : a ≡ length bs = omega (arith, p .place) in
+    ap₂ take l (p .bytes) ∙ take-append-seam bs (drop (0 + length bs) d)
 
 -- no byte
 pub put-none : (d : List ℕ) (at : ℕ) → Put d at [] d at

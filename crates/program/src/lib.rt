@@ -3,6 +3,7 @@ ghost use mathlib.Core.Path.{_≡_};
 ghost use Prim.Native.Nat.{_≤_};
 ghost use lib.ListN.{length, take};
 ghost use Rattle.session.specs.Records.{checkOf};
+ghost use Rattle.lines.specs.Text.{refusedLine, passText, passTexts, sessionText};
 use lines::pass_text;
 use lines::refused_text;
 use session::Place;
@@ -121,30 +122,44 @@ fn explain_passes(refusals: &[i64; 64]) {
 
 // ---- the work
 
-// Prints the line of a file's refusal, from the room for the text.
-fn print_refused(n: i64, text: &mut [u8])
-    requires { ⌜ 172100 ≤ length (now text) ⌝ }
+// Writes the whole text of a file to standard output; the file says which text that is.
+fn write_session(text: &[u8], file: &[u8])
+    requires { ⌜ now text ≡ sessionText (now file) ⌝ }
 {
-    let end = refused_text(text, n);
-    io::write_all(1, &text[..end]);
+    io::write_all(1, text);
+}
+
+// Writes the text of a pass to standard output; the file and the pass say which text that is.
+fn write_pass(text: &[u8], file: &[u8], i: usize)
+    requires { ⌜ now text ≡ passText (now file) i ⌝ }
+{
+    io::write_all(1, text);
+}
+
+// Prints the one line of a file that is refused with this number, from the room for it.
+fn print_refused(file: &[u8], n: i64, room: &mut [u8])
+    requires { ⌜ (29 ≤ length (now room)) × (sessionText (now file) ≡ refusedLine n) ⌝ }
+{
+    let end = refused_text(room, n);
+    write_session(&room[..end], file);
 }
 
 // Prints the text of a pass, from the room for it, and answers the refusal's number.
-fn print_pass(file: &[u8], i: usize, text: &mut [u8]) -> i64
-    requires { ⌜ 172100 ≤ length (now text) ⌝ }
+fn print_pass(file: &[u8], i: usize, room: &mut [u8]) -> i64
+    requires { ⌜ 172100 ≤ length (now room) ⌝ }
 {
-    let t = pass_text(file, i, text);
-    io::write_all(1, &text[..t.length]);
+    let t = pass_text(file, i, room);
+    write_pass(&room[..t.length], file, i);
     t.refusal
 }
 
-// Prints each pass in turn, and keeps the refusals' numbers.
-fn print_passes(file: &[u8], passes: usize, text: &mut [u8], refusals: &mut [i64; 64])
-    requires { ⌜ 172100 ≤ length (now text) ⌝ }
+// Prints each pass in turn, from the room for its text, and keeps the refusals' numbers. Their texts are the file's whole text.
+fn print_passes(file: &[u8], passes: usize, room: &mut [u8], refusals: &mut [i64; 64])
+    requires { ⌜ (172100 ≤ length (now room)) × (sessionText (now file) ≡ passTexts (now file) passes) ⌝ }
 {
     let mut i: usize = 0;
     while i < passes {
-        let n = print_pass(file, i, text);
+        let n = print_pass(file, i, room);
         if i < 64 {
             refusals[i] = n;
         }
@@ -156,17 +171,17 @@ fn print_passes(file: &[u8], passes: usize, text: &mut [u8], refusals: &mut [i64
 fn print_session(file: &[u8]) -> i64
     ensures { λ r. ⌜ r ≡ checkOf (now (file .entry)) .refusal ⌝ }
 {
-    let mut text = [0u8; 172100];
+    let mut room = [0u8; 172100];
     let c = session::check(file);
     let n = c.refusal;
-    if n != 0 {
-        print_refused(n, &mut text);
+    if 1 <= n {
+        print_refused(file, n, &mut room);
         explain_file(file);
         return n;
     }
     let mut refusals = [0i64; 64];
     let passes = size(c.passes) as usize;
-    print_passes(file, passes, &mut text, &mut refusals);
+    print_passes(file, passes, &mut room, &mut refusals);
     explain_passes(&refusals);
     n
 }
