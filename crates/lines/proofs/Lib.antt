@@ -2,3 +2,4 @@ pub mod Digits
 pub mod Puts
 pub mod Texts
 pub mod Session
+pub mod Segments

@@ -8,6 +8,7 @@ use lib.ListN.{getD, replicate}
 use lib.Signed.{leZ}
 use Rattle.whole.specs.Whole.{P}
 use Rattle.sections.specs.File.{refusalOf, countOf}
+use Rattle.track.specs.Segments.{Segment}
 use Rattle.track.specs.Answer.{Outcome}
 use Rattle.fringe.specs.PassTrack.{passOutcome}
 use Rattle.lines.specs.Decimal.{decimal}
@@ -33,6 +34,11 @@ segmentLine room b = lineOf (getD room b (pos 0)) (getD room (b + 1) (pos 0) ∷
 unfoldable pub segmentLines : List ℤ → ℕ → List ℕ
 segmentLines room zero = []
 segmentLines room (suc m) = segmentLines room m ++ segmentLine room (4 * m)
+
+-- the same of a list of segments: proofs/Segments.antt shows that its lines are those of the room that it stands in
+unfoldable pub linesOf : List Segment → List ℕ
+linesOf [] = []
+linesOf (x ∷ xs) = lineOf (pos (x .first)) (pos (x .count) ∷ x .offset ∷ x .rate ∷ []) ++ linesOf xs
 
 -- "a refused pass prints them in place of its lines"
 unfoldable pub outcomeText : ℕ → Outcome → List ℕ

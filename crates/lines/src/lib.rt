@@ -72,14 +72,15 @@ pub fn pass_text(file: &[u8], pass: usize, room: &mut [u8]) -> Text
     let r = pass_track(file, pass, &mut segments);
     let n = r.refusal;
     if 1 <= n {
-        let end = refused_text(room, n);
+        let line = refused_text(room, n);
         return Text {
-            length: end,
+            length: line,
             refusal: n,
         };
     }
-    let start = put_pass(room, pass, r.value);
-    let end = put_segments(room, start, &segments, size(r.value) as usize);
+    let m = r.value;
+    let start = put_pass(room, pass, m);
+    let end = put_segments(room, start, &segments, size(m) as usize);
     Text {
         length: end,
         refusal: n,

@@ -13,7 +13,7 @@ use Rattle.whole.specs.Whole.{P, N, ∣_∣}
 use Rattle.whole.proofs.Linear.{ret}
 use Rattle.track.specs.Answer.{Outcome}
 use Rattle.lines.specs.Put.{Put}
-use Rattle.lines.specs.Text.{refusedLine, passLine, segmentLines, passText, lentOutcome}
+use Rattle.lines.specs.Text.{refusedLine, passLine, segmentLines, outcomeText, passText, lentOutcome}
 use Rattle.lines.proofs.Puts.{put-then, put-long}
 use Rattle.lines.proofs.Texts.{lent-holds, refused-is, made-is}
 use borrow.Author.Needs.{needs}
@@ -29,37 +29,31 @@ refusal-is c =
     let t = c .before .before .pass-track in
     ret (t .result .refusal) (c .struct-told .given .0 .1) ∙ ap (λ (o : Outcome). o .answer .refusal) (t .ensures)
 
-value-is : (c : tie.After-struct-told2) → toZ w64 (ofZ w64 (c .before .before .before .before .before .pass-track .result .value)) ≡ outcomeOf (c .before .before .before .before .before) .answer .value
+value-is : (c : tie.After-struct-told2) → toZ w64 (ofZ w64 (c .before .before .before .before .pass-track .result .value)) ≡ outcomeOf (c .before .before .before .before) .answer .value
 value-is c =
-    let t = c .before .before .before .before .before .pass-track in
+    let t = c .before .before .before .before .pass-track in
     ret (t .result .value) (c .struct-told2 .given .1 .0 .1) ∙ ap (λ (o : Outcome). o .answer .value) (t .ensures)
 
-count-is : (c : tie.After-size) → c .size .result ≡ P (outcomeOf (c .before .before .before .before .before .before .before .before .before .before .before .before) .answer .value)
+count-is : (c : tie.After-size) → c .size .result ≡ P (outcomeOf (c .before .before .before .before .before .before .before .before .before .before .before) .answer .value)
 count-is c =
-    let t = c .before .before .before .before .before .before .before .before .before .before .before .before .pass-track in
-    let h = lent-holds (c .before .before .before .before .before .before .before .before .before .before .before .before .before .before .before .before .args .file .now) (c .before .before .before .before .before .before .before .before .before .before .before .before .before .before .before .before .args .pass) .counted in
-    c .size .ensures ∙ ap ∣_∣ (ret (t .result .value) (c .before .struct-told3 .given .1 .0 .1) ∙ ap (λ (o : Outcome). o .answer .value) (t .ensures)) ∙ omega (arith, h)
+    let h = lent-holds (c .before .before .before .before .before .before .before .before .before .before .before .before .before .before .before .args .file .now) (c .before .before .before .before .before .before .before .before .before .before .before .before .before .before .before .args .pass) .counted in
+    c .size .ensures ∙ ap ∣_∣ (value-is (c .before .before .before .before .before .before .before)) ∙ omega (arith, h)
 
 room-is : (c : tie.After-pass-track) → c .pass-track .last .1 .1 .0 ≡ outcomeOf c .room
 room-is c = ap (λ (o : Outcome). o .room) (c .pass-track .ensures)
 
--- src/lib.rt:71:36
 slice-aggregate-pass-track : tie.Need-slice-aggregate-pass-track
 slice-aggregate-pass-track c = search needs
 
--- src/lib.rt:71:9
 pass-track-requires : tie.Need-pass-track-requires
 pass-track-requires c κs = search needs
 
--- src/lib.rt:74:13
 refused-text-requires : tie.Need-refused-text-requires
 refused-text-requires c κs = search needs
 
--- src/lib.rt:75:9
 same-length : tie.Need-same-length
 same-length c = search needs
 
--- src/lib.rt:75:9
 returns : tie.Need-returns
 unfolding passText
 returns c =
@@ -72,47 +66,41 @@ returns c =
     let w = ap refusedLine e ∙ sym (refused-is (s .args .pass) o y) in
     (subst (λ (bs : List ℕ). Put (s .args .room .now) 0 bs (n .last .0) (n .result)) w (n .ensures), e)
 
--- src/lib.rt:80:9
 put-pass-requires : tie.Need-put-pass-requires
 put-pass-requires c κs = search needs
 
--- src/lib.rt:81:41
 slice-aggregate-put-segments : tie.Need-slice-aggregate-put-segments
 slice-aggregate-put-segments c = search needs
 
--- src/lib.rt:81:52
 size-requires : tie.Need-size-requires
 size-requires c κs = search needs
 
--- src/lib.rt:81:9
 put-segments-requires : tie.Need-put-segments-requires
 put-segments-requires c κs =
     let m = count-is c in
-    let t = c .before .before .before .before .before .before .before .before .before .before .before .before in
+    let t = c .before .before .before .before .before .before .before .before .before .before .before in
     let h = lent-holds (t .before .before .before .before .args .file .now) (t .before .before .before .before .args .pass) in
-    let p = c .before .before .before .before .before .before .put-pass in
+    let p = c .before .before .before .before .before .put-pass in
     let l = put-long (p .ensures .0) (omega (arith, p .ensures .1, t .before .before .before .before .pre)) in
     (omega (arith, m, h .few, p .ensures .1, l, t .before .before .before .before .pre), omega (arith, m, h .there, ap length (room-is t)))
 
--- src/lib.rt:66:1
 same-length-2 : tie.Need-same-length-2
 same-length-2 c = search needs
 
--- src/lib.rt:66:1
 returns-2 : tie.Need-returns-2
 unfolding passText
 returns-2 c =
-    let s = c .before .before .before .before .before .before .before .before .before .before .before .before .before .before .before .before .before .before .before in
-    let t = c .before .before .before .before .before .before .before .before .before .before .before .before .before in
-    let p = c .before .before .before .before .before .before .before .before .before .put-pass in
+    let s = c .before .before .before .before .before .before .before .before .before .before .before .before .before .before .before .before .before .before in
+    let t = c .before .before .before .before .before .before .before .before .before .before .before .before in
+    let p = c .before .before .before .before .before .before .before .before .put-pass in
     let g = c .before .before .put-segments in
     let o = outcomeOf (t .before .before) in
     let e = refusal-is t in
-    let d = s .args .room .now in
-    let y : leZ (pos 1) (o .answer .refusal) ≡ false = ap (leZ (pos 1)) (sym e) ∙ c .before .before .before .before .before .before .before .before .before .before .before .before .if1 .left in
-    let w = ap₂ _++_ (ap (passLine (s .args .pass)) (value-is (c .before .before .before .before .before .before .before .before .before .before))) (ap₂ segmentLines (room-is (c .before .before .before .before .before .before .before .before .before .before .before .before .before .before .before)) (count-is (c .before .before .before))) ∙ sym (made-is (s .args .pass) o y) in
+    let y : leZ (pos 1) (o .answer .refusal) ≡ false = ap (leZ (pos 1)) (sym e) ∙ c .before .before .before .before .before .before .before .before .before .before .before .if1 .left in
+    let w : passLine (s .args .pass) (toZ w64 (ofZ w64 (t .before .before .pass-track .result .value))) ++ segmentLines (t .before .before .pass-track .last .1 .1 .0) (c .before .before .before .size .result) ≡ outcomeText (s .args .pass) o =
+    ap₂ _++_ (ap (passLine (s .args .pass)) (value-is (c .before .before .before .before .before .before .before .before .before .before))) (ap₂ segmentLines (room-is (t .before .before)) (count-is (c .before .before .before))) ∙ sym (made-is (s .args .pass) o y) in
     let q = put-then (p .ensures .0) (omega (arith, p .ensures .1, s .pre)) (g .ensures .0) in
-    (subst (λ (bs : List ℕ). Put d 0 bs (g .last .0) (g .result)) w q, e)
+    (subst (λ (bs : List ℕ). Put (s .args .room .now) 0 bs (g .last .0) (g .result)) w q, e)
 
 pub pass-text-spec : {M : Type 1} → statement M
 pass-text-spec =

@@ -20,15 +20,12 @@ use Rattle.lines.proofs.put_pass.Tie as tie
 index-few : (n : ℕ) → Fits w64 n → length (digitsOf n) ≤ 20
 index-few n f = at-most 19 n (omega (arith, f))
 
--- src/lib.rt:28:35
 slice-aggregate-put-word : tie.Need-slice-aggregate-put-word
 slice-aggregate-put-word c = search needs
 
--- src/lib.rt:28:9
 put-word-requires : tie.Need-put-word-requires
 put-word-requires c κs = search needs
 
--- src/lib.rt:29:9
 put-natural-requires : tie.Need-put-natural-requires
 put-natural-requires c κs =
     let s = c .before .before .before .before .before .before .before in
@@ -36,11 +33,9 @@ put-natural-requires c κs =
     let k = index-few (s .args .pass) (s .fits .pass) in
     search needs
 
--- src/lib.rt:30:39
 slice-aggregate-put-word-2 : tie.Need-slice-aggregate-put-word-2
 slice-aggregate-put-word-2 c = search needs
 
--- src/lib.rt:30:9
 put-word-requires-2 : tie.Need-put-word-requires-2
 put-word-requires-2 c κs =
     let s = c .before .before .before .before .before .before .before .before .before .before .before .before in
@@ -49,7 +44,6 @@ put-word-requires-2 c κs =
     let k = index-few (s .args .pass) (s .fits .pass) in
     search needs
 
--- src/lib.rt:31:5
 put-number-requires : tie.Need-put-number-requires
 put-number-requires c κs =
     let s = c .before .before .before .before .before .before .before .before .before .before .before .before .before .before .before .before in
@@ -59,11 +53,9 @@ put-number-requires c κs =
     let k = index-few (s .args .pass) (s .fits .pass) in
     search needs
 
--- src/lib.rt:24:1
 same-length : tie.Need-same-length
 same-length c = search needs
 
--- src/lib.rt:24:1
 returns : tie.Need-returns
 unfolding passLine lineOf decimal
 returns c =

@@ -21,71 +21,54 @@ use Rattle.lines.proofs.put_segment.Tie as tie
 number : {d e : List ℕ} {at r : ℕ} (b : ℕ) (z : ℤ) → mag z < 2 ^ 63 → Put d at (decimal (toZ w64 (ofZ w64 z)) ++ (b ∷ [])) e r → Put d at (decimal z ++ (b ∷ [])) e r
 number {d = d} {e = e} {at = at} {r = r} b z h p = subst (λ (y : ℤ). Put d at (decimal y ++ (b ∷ [])) e r) (ret z h) p
 
--- src/lib.rt:39:40
 mul-put-number : tie.Need-mul-put-number
 mul-put-number c = search needs
 
--- src/lib.rt:39:40
 shared-slice-copy-out-put-number : tie.Need-shared-slice-copy-out-put-number
 shared-slice-copy-out-put-number c = search needs
 
--- src/lib.rt:39:9
 put-number-requires : tie.Need-put-number-requires
 put-number-requires c κs = search needs
 
--- src/lib.rt:40:53
 add-put-number : tie.Need-add-put-number
 add-put-number c = search needs
 
--- src/lib.rt:40:44
 mul-put-number-2 : tie.Need-mul-put-number-2
 mul-put-number-2 c = search needs
 
--- src/lib.rt:40:44
 shared-slice-copy-out-put-number-2 : tie.Need-shared-slice-copy-out-put-number-2
 shared-slice-copy-out-put-number-2 c = search needs
 
--- src/lib.rt:40:9
 put-number-requires-2 : tie.Need-put-number-requires-2
 put-number-requires-2 c κs = search needs
 
--- src/lib.rt:41:50
 add-put-number-2 : tie.Need-add-put-number-2
 add-put-number-2 c = search needs
 
--- src/lib.rt:41:41
 mul-put-number-3 : tie.Need-mul-put-number-3
 mul-put-number-3 c = search needs
 
--- src/lib.rt:41:41
 shared-slice-copy-out-put-number-3 : tie.Need-shared-slice-copy-out-put-number-3
 shared-slice-copy-out-put-number-3 c = search needs
 
--- src/lib.rt:41:9
 put-number-requires-3 : tie.Need-put-number-requires-3
 put-number-requires-3 c κs = search needs
 
--- src/lib.rt:42:37
 add-put-number-3 : tie.Need-add-put-number-3
 add-put-number-3 c = search needs
 
--- src/lib.rt:42:28
 mul-put-number-4 : tie.Need-mul-put-number-4
 mul-put-number-4 c = search needs
 
--- src/lib.rt:42:28
 shared-slice-copy-out-put-number-4 : tie.Need-shared-slice-copy-out-put-number-4
 shared-slice-copy-out-put-number-4 c = search needs
 
--- src/lib.rt:42:5
 put-number-requires-4 : tie.Need-put-number-requires-4
 put-number-requires-4 c κs = search needs
 
--- src/lib.rt:35:1
 same-length : tie.Need-same-length
 same-length c = search needs
 
--- src/lib.rt:35:1
 returns : tie.Need-returns
 unfolding segmentLine lineOf
 returns c =

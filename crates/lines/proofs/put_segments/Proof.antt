@@ -24,28 +24,22 @@ Inv-loop room₀ at segments m end₀ i₀ room end i =
 abbrev μ-loop : tie.MeasureT-loop
 μ-loop room₀ at segments m end₀ i₀ room end i = m - i
 
--- src/lib.rt:52:5
 loop-holds : tie.Need-loop-holds Inv-loop μ-loop
 unfolding segmentLines
 loop-holds c = (search needs, put-none (c .before .args .room .now) (c .before .args .at), search needs, refl)
 
--- src/lib.rt:53:48
 mul-put-segment : tie.Need-mul-put-segment Inv-loop μ-loop
 mul-put-segment c = search needs
 
--- src/lib.rt:53:9
 put-segment-requires : tie.Need-put-segment-requires Inv-loop μ-loop
 put-segment-requires c κs = search needs
 
--- src/lib.rt:54:9
 add-i : tie.Need-add-i Inv-loop μ-loop
 add-i c = search needs
 
--- src/lib.rt:52:5
 loop-less : tie.Need-loop-less Inv-loop μ-loop
 loop-less c = search needs
 
--- src/lib.rt:52:5
 loop-again : tie.Need-loop-again Inv-loop μ-loop
 loop-again c =
     let s = c .before .before .before .before .before .before .before in
@@ -57,11 +51,9 @@ loop-again c =
     let p = put-then (l .inv .1) h (n .ensures .0) in
     (search needs, subst (λ (bs : List ℕ). Put d (s .args .at) bs (n .last .0) (n .result)) (sym (one-more zs (l .i))) p, omega (arith, n .ensures .1, l .inv .2), search needs)
 
--- src/lib.rt:46:1
 same-length : tie.Need-same-length Inv-loop μ-loop
 same-length c = search needs
 
--- src/lib.rt:46:1
 returns : tie.Need-returns Inv-loop μ-loop
 returns c =
     let s = c .before .before .before in

@@ -14,23 +14,18 @@ use borrow.Author.Needs.{needs}
 use Rattle.lines.proofs.refused_text.Statement.{statement}
 use Rattle.lines.proofs.refused_text.Tie as tie
 
--- src/lib.rt:19:36
 slice-aggregate-put-word : tie.Need-slice-aggregate-put-word
 slice-aggregate-put-word c = search needs
 
--- src/lib.rt:19:9
 put-word-requires : tie.Need-put-word-requires
 put-word-requires c κs = search needs
 
--- src/lib.rt:20:5
 put-number-requires : tie.Need-put-number-requires
 put-number-requires c κs = search needs
 
--- src/lib.rt:15:1
 same-length : tie.Need-same-length
 same-length c = search needs
 
--- src/lib.rt:15:1
 returns : tie.Need-returns
 unfolding refusedLine lineOf
 returns c =

@@ -6,27 +6,21 @@ use borrow.Author.Needs.{needs}
 use Rattle.program.proofs.print_pass.Statement.{statement}
 use Rattle.program.proofs.print_pass.Tie as tie
 
--- src/lib.rt:151:9
 pass-text-requires : tie.Need-pass-text-requires
 pass-text-requires c κs = search needs
 
--- src/lib.rt:152:16
 slice-reshare-prefix-write-pass : tie.Need-slice-reshare-prefix-write-pass
 slice-reshare-prefix-write-pass c = put-inside (c .before .before .pass-text .ensures .0)
 
--- src/lib.rt:152:16
 slice-aggregate-write-pass : tie.Need-slice-aggregate-write-pass
 slice-aggregate-write-pass c = sym (length-take-le _ _ (slice-reshare-prefix-write-pass (c .before)))
 
--- src/lib.rt:152:5
 write-pass-requires : tie.Need-write-pass-requires
 write-pass-requires c κs = put-start (c .before .before .before .pass-text .ensures .0)
 
--- src/lib.rt:148:1
 same-length : tie.Need-same-length
 same-length c = search needs
 
--- src/lib.rt:148:1
 returns : tie.Need-returns
 returns c = search needs
 

@@ -12,39 +12,30 @@ Inv-loop file passes room₀ refusals₀ i₀ room refusals i = (i ≤ passes) �
 abbrev μ-loop : tie.MeasureT-loop
 μ-loop file passes room₀ refusals₀ i₀ room refusals i = passes - i
 
--- src/lib.rt:161:5
 loop-holds : tie.Need-loop-holds Inv-loop μ-loop
 loop-holds c = search needs
 
--- src/lib.rt:162:13
 print-pass-requires : tie.Need-print-pass-requires Inv-loop μ-loop
 print-pass-requires c κs = search needs
 
--- src/lib.rt:164:13
 mul-n : tie.Need-mul-n Inv-loop μ-loop
 mul-n c = search needs
 
--- src/lib.rt:164:13
 element-set-from-n : tie.Need-element-set-from-n Inv-loop μ-loop
 element-set-from-n c = search needs
 
--- src/lib.rt:166:9
 add-i : tie.Need-add-i Inv-loop μ-loop
 add-i c = search needs
 
--- src/lib.rt:161:5
 loop-less : tie.Need-loop-less Inv-loop μ-loop
 loop-less c = search needs
 
--- src/lib.rt:161:5
 loop-again : tie.Need-loop-again Inv-loop μ-loop
 loop-again c = search needs
 
--- src/lib.rt:157:1
 same-length : tie.Need-same-length Inv-loop μ-loop
 same-length c = search needs
 
--- src/lib.rt:157:1
 returns : tie.Need-returns Inv-loop μ-loop
 returns c = search needs
 

@@ -8,29 +8,23 @@ use borrow.Author.Needs.{needs}
 use Rattle.program.proofs.print_refused.Statement.{statement}
 use Rattle.program.proofs.print_refused.Tie as tie
 
--- src/lib.rt:143:9
 refused-text-requires : tie.Need-refused-text-requires
 refused-text-requires c κs = search needs
 
--- src/lib.rt:144:19
 slice-reshare-prefix-write-session : tie.Need-slice-reshare-prefix-write-session
 slice-reshare-prefix-write-session c = put-inside (c .before .before .refused-text .ensures)
 
--- src/lib.rt:144:19
 slice-aggregate-write-session : tie.Need-slice-aggregate-write-session
 slice-aggregate-write-session c = sym (length-take-le _ _ (slice-reshare-prefix-write-session (c .before)))
 
--- src/lib.rt:144:5
 write-session-requires : tie.Need-write-session-requires
 write-session-requires c κs =
     let s = c .before .before .before .before .before .before .before in
     put-start (c .before .before .before .refused-text .ensures) ∙ ap refusedLine (back (s .fits .n)) ∙ sym (s .pre .1)
 
--- src/lib.rt:140:1
 same-length : tie.Need-same-length
 same-length c = search needs
 
--- src/lib.rt:140:1
 returns : tie.Need-returns
 returns c = search needs
 

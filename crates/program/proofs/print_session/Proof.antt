@@ -31,15 +31,12 @@ passes-are c =
     c .size .ensures
     ∙ ap ∣_∣ (ret (d .check .result .passes) (c .before .struct-told2 .given .1 .1 .1 .1 .0 .1) ∙ ap (λ (r : Counts). r .passes) (d .check .ensures))
 
--- src/lib.rt:175:9
 check-requires : tie.Need-check-requires
 check-requires c κs = search needs
 
--- src/lib.rt:178:32
 slice-aggregate-print-refused : tie.Need-slice-aggregate-print-refused
 slice-aggregate-print-refused c = search needs
 
--- src/lib.rt:178:9
 print-refused-requires : tie.Need-print-refused-requires
 print-refused-requires c κs =
     let t = c .before .before in
@@ -48,23 +45,18 @@ print-refused-requires c κs =
     let y : leZ (pos 1) (checkOf s .refusal) ≡ true = ap (leZ (pos 1)) (sym e) ∙ c .before .if1 .taken in
     (rw (length-replicate {A = ℕ} 172100 0) (lit≤ tt), session-refused s y ∙ ap refusedLine (sym e))
 
--- src/lib.rt:179:9
 explain-file-requires : tie.Need-explain-file-requires
 explain-file-requires c κs = search needs
 
--- src/lib.rt:180:9
 returns : tie.Need-returns
 returns c = number-is (c .before .before .before .before .before)
 
--- src/lib.rt:183:18
 size-requires : tie.Need-size-requires
 size-requires c κs = search needs
 
--- src/lib.rt:184:32
 slice-aggregate-print-passes : tie.Need-slice-aggregate-print-passes
 slice-aggregate-print-passes c = search needs
 
--- src/lib.rt:184:5
 print-passes-requires : tie.Need-print-passes-requires
 print-passes-requires c κs =
     let t = c .before .before .before .before .before in
@@ -73,11 +65,9 @@ print-passes-requires c κs =
     let y : leZ (pos 1) (checkOf s .refusal) ≡ false = ap (leZ (pos 1)) (sym e) ∙ c .before .before .before .before .if1 .left in
     (rw (length-replicate {A = ℕ} 172100 0) (lit≤ tt), session-passes s y ∙ ap (passTexts s) (sym (passes-are (c .before .before))))
 
--- src/lib.rt:185:5
 explain-passes-requires : tie.Need-explain-passes-requires
 explain-passes-requires c κs = search needs
 
--- src/lib.rt:171:1
 returns-2 : tie.Need-returns-2
 returns-2 c = number-is (c .before .before .before .before .before .before .before .before .before)
 

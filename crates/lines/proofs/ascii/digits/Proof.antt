@@ -15,26 +15,21 @@ Inv-loop n k₀ rest₀ k rest = k + length (digitsOf rest) ≡ length (digitsOf
 abbrev μ-loop : tie.MeasureT-loop
 μ-loop n k₀ rest₀ k rest = rest
 
--- src/ascii.rt:29:5
 loop-holds : tie.Need-loop-holds Inv-loop μ-loop
 loop-holds c = search needs
 
--- src/ascii.rt:31:9
 add-k : tie.Need-add-k Inv-loop μ-loop
 add-k c =
     let n = c .before .before .args .n in
     let l = at-most 19 n (omega (arith, c .before .before .fits .n)) in
     record { fits = omega (arith, l, some (c .before .loop .rest), c .before .loop .inv) }
 
--- src/ascii.rt:29:5
 loop-less : tie.Need-loop-less Inv-loop μ-loop
 loop-less c = search needs
 
--- src/ascii.rt:29:5
 loop-again : tie.Need-loop-again Inv-loop μ-loop
 loop-again c = omega (arith, length-more (c .before .loop .rest) (c .loop-test .taken), c .before .loop .inv)
 
--- src/ascii.rt:24:1
 returns : tie.Need-returns Inv-loop μ-loop
 returns c =
     let l = ap length (one-digit (c .before .loop .rest) (omega arith)) in

@@ -26,19 +26,15 @@ sized s n e = e ∙ ap ∣_∣ (back (s .fits .z))
 few-digits : (s : tie.Start) (n : ℕ) → n ≡ ∣ toZ w64 (ofZ w64 (s .args .z)) ∣ → length (digitsOf n) ≤ 19
 few-digits s n e = rw (sized s n e) (nineteen (s .args .z) (s .fits .z))
 
--- src/ascii.rt:59:9
 slice-write-room : tie.Need-slice-write-room
 slice-write-room c = search needs
 
--- src/ascii.rt:60:34
 add-put-natural : tie.Need-add-put-natural
 add-put-natural c = search needs
 
--- src/ascii.rt:60:42
 size-requires : tie.Need-size-requires
 size-requires c κs = search needs
 
--- src/ascii.rt:60:9
 put-natural-requires : tie.Need-put-natural-requires
 put-natural-requires c κs =
     let s = c .before .before .before .before in
@@ -56,13 +52,11 @@ inside c =
     let s = c .before .before .before .before .before in
     omega (arith, c .put-natural .ensures .place, few-digits s (c .before .size .result) (c .before .size .ensures))
 
--- src/ascii.rt:60:9
 same-length : tie.Need-same-length
 same-length c =
     let n = c .before .before in
     put-long (signed n) (omega (arith, inside n, n .before .before .before .before .before .pre))
 
--- src/ascii.rt:60:9
 returns : tie.Need-returns
 returns c =
     let n = c .before .before in
@@ -72,22 +66,18 @@ returns c =
     let e : decimal (s .args .z) ≡ 45 ∷ digitsOf (z .result) = below-zero (s .args .z) t ∙ ap (λ (k : ℕ). 45 ∷ digitsOf k) (sym (sized s (z .result) (z .ensures))) in
     (subst (λ (bs : List ℕ). Put (s .args .room .now) (s .args .at) bs (n .put-natural .last .0) (n .put-natural .result)) (sym e) (signed n), inside n)
 
--- src/ascii.rt:62:27
 size-requires-2 : tie.Need-size-requires-2
 size-requires-2 c κs = search needs
 
--- src/ascii.rt:62:5
 put-natural-requires-2 : tie.Need-put-natural-requires-2
 put-natural-requires-2 c κs =
     let s = c .before .before .before .before in
     let l : length (digitsOf (c .size2 .result)) ≤ 19 = few-digits s (c .size2 .result) (c .size2 .ensures) in
     omega (arith, l, s .pre)
 
--- src/ascii.rt:54:1
 same-length-2 : tie.Need-same-length-2
 same-length-2 c = search needs
 
--- src/ascii.rt:54:1
 returns-2 : tie.Need-returns-2
 returns-2 c =
     let n = c .before .before in

@@ -28,41 +28,32 @@ Inv-loop room₀ at n end i₀ rest₀ room i rest =
 abbrev μ-loop : tie.MeasureT-loop
 μ-loop room₀ at n end i₀ rest₀ room i rest = rest
 
--- src/ascii.rt:41:20
 digits-requires : tie.Need-digits-requires Inv-loop μ-loop
 digits-requires c κs = search needs
 
--- src/ascii.rt:41:15
 add-end : tie.Need-add-end Inv-loop μ-loop
 add-end c = let e = c .digits .ensures in search needs
 
--- src/ascii.rt:44:5
 loop-holds : tie.Need-loop-holds Inv-loop μ-loop
 loop-holds c =
     let e = c .digits .ensures in
     (omega (arith, e), omega arith, omega (arith, e, c .before .before .pre), refl, refl)
 
--- src/ascii.rt:45:9
 sub-i : tie.Need-sub-i Inv-loop μ-loop
 sub-i c = omega (arith, c .before .loop .inv .0, some (c .before .loop .rest))
 
--- src/ascii.rt:46:24
 cast-room : tie.Need-cast-room Inv-loop μ-loop
 cast-room c = search needs
 
--- src/ascii.rt:46:19
 add-room : tie.Need-add-room Inv-loop μ-loop
 add-room c = search needs
 
--- src/ascii.rt:46:9
 slice-write-room : tie.Need-slice-write-room Inv-loop μ-loop
 slice-write-room c = omega (arith, c .before .loop .inv .0, some (c .before .loop .rest), c .before .loop .inv .1, c .before .loop .inv .2, c .before .loop .inv .4)
 
--- src/ascii.rt:44:5
 loop-less : tie.Need-loop-less Inv-loop μ-loop
 loop-less c = search needs
 
--- src/ascii.rt:44:5
 loop-again : tie.Need-loop-again Inv-loop μ-loop
 loop-again c =
     let st = c .before .before .before .before in
@@ -72,23 +63,18 @@ loop-again c =
     let h : st .args .at + length (digitsOf (l .rest / 10)) < length (l .room) = omega (arith, l .inv .0, length-more (l .rest) t, l .inv .1, l .inv .2, l .inv .4) in
     (e, omega (arith, l .inv .1), l .inv .2, digit-put (l .room) (st .args .at) (l .rest) (l .i - 1) t e h ∙ l .inv .3, simp length-set (l .inv .4))
 
--- src/ascii.rt:49:21
 cast-room-2 : tie.Need-cast-room-2 Inv-loop μ-loop
 cast-room-2 c = search needs
 
--- src/ascii.rt:49:16
 add-room-2 : tie.Need-add-room-2 Inv-loop μ-loop
 add-room-2 c = search needs
 
--- src/ascii.rt:49:5
 slice-write-room-2 : tie.Need-slice-write-room-2 Inv-loop μ-loop
 slice-write-room-2 c = omega (arith, c .before .loop .inv .0, some (c .before .loop .rest), c .before .loop .inv .1, c .before .loop .inv .2, c .before .loop .inv .4)
 
--- src/ascii.rt:37:1
 same-length : tie.Need-same-length Inv-loop μ-loop
 same-length c = search needs
 
--- src/ascii.rt:37:1
 returns : tie.Need-returns Inv-loop μ-loop
 returns c =
     let st = c .before .before .before .before in

@@ -12,23 +12,18 @@ use borrow.Author.Needs.{needs}
 use Rattle.lines.proofs.ascii.put_number.Statement.{statement}
 use Rattle.lines.proofs.ascii.put_number.Tie as tie
 
--- src/ascii.rt:70:9
 put-decimal-requires : tie.Need-put-decimal-requires
 put-decimal-requires c κs = search needs
 
--- src/ascii.rt:71:5
 slice-write-room : tie.Need-slice-write-room
 slice-write-room c = search needs
 
--- src/ascii.rt:72:5
 add-result : tie.Need-add-result
 add-result c = search needs
 
--- src/ascii.rt:66:1
 same-length : tie.Need-same-length
 same-length c = search needs
 
--- src/ascii.rt:66:1
 returns : tie.Need-returns
 returns c =
     let s = c .before .before .before .before .before in

@@ -18,46 +18,36 @@ Inv-loop room₀ at word j₀ room j = (j ≤ length word) × Put room₀ at (ta
 abbrev μ-loop : tie.MeasureT-loop
 μ-loop room₀ at word j₀ room j = length word - j
 
--- src/ascii.rt:16:5
 loop-holds : tie.Need-loop-holds Inv-loop μ-loop
 loop-holds c = (search needs, subst (Put (c .args .room .now) (c .args .at) [] (c .args .room .now)) (sym (add-zero (c .args .at))) (put-none (c .args .room .now) (c .args .at)), refl)
 
--- src/ascii.rt:17:24
 shared-slice-read-room : tie.Need-shared-slice-read-room Inv-loop μ-loop
 shared-slice-read-room c = search needs
 
--- src/ascii.rt:17:14
 add-room : tie.Need-add-room Inv-loop μ-loop
 add-room c = search needs
 
--- src/ascii.rt:17:9
 slice-write-room : tie.Need-slice-write-room Inv-loop μ-loop
 slice-write-room c = search needs
 
--- src/ascii.rt:18:9
 add-j : tie.Need-add-j Inv-loop μ-loop
 add-j c = search needs
 
--- src/ascii.rt:16:5
 loop-less : tie.Need-loop-less Inv-loop μ-loop
 loop-less c = search needs
 
--- src/ascii.rt:16:5
 loop-again : tie.Need-loop-again Inv-loop μ-loop
 loop-again c =
     let st = c .before .before .before in
     let l = c .before .before .loop in
     (search needs, put-more (st .args .room .now) (st .args .at) (st .args .word .now) (l .j) (l .room) (c .before .loop-test .taken) (st .pre) (l .inv .1), simp length-set (l .inv .2))
 
--- src/ascii.rt:20:5
 add-result : tie.Need-add-result Inv-loop μ-loop
 add-result c = search needs
 
--- src/ascii.rt:11:1
 same-length : tie.Need-same-length Inv-loop μ-loop
 same-length c = search needs
 
--- src/ascii.rt:11:1
 returns : tie.Need-returns Inv-loop μ-loop
 returns c =
     let st = c .before .before in
