@@ -3,64 +3,21 @@ ghost use mathlib.Core.Path.{_≡_};
 ghost use Prim.Native.Nat.{_≤_};
 ghost use lib.ListN.{length, take};
 ghost use Rattle.session.specs.Records.{checkOf};
-use fringe::pass_track;
+ghost use Rattle.lines.specs.Text.{refusedLine, passText, passTexts, sessionText};
+use lines::pass_text;
+use lines::refused_text;
 use session::Place;
 use whole::sign::size;
 
-// ---- lines on standard output
+// ---- what a refusal means, in plain words, on standard error
 
 // A number in decimal.
-fn decimal(to: i32, z: i64) {
+fn decimal(z: i64) {
     if z < 0 {
-        io::write_all(to, b"-");
+        io::write_all(2, b"-");
     }
-    io::print_decimal(to, size(z));
+    io::print_decimal(2, size(z));
 }
-
-// "A refused file prints `refused` and the number; a refused pass prints them in place of its lines".
-fn refused(n: i64) {
-    io::write_all(1, b"refused ");
-    decimal(1, n);
-    io::write_all(1, b"\n");
-}
-
-// "pass index and segment count"
-fn pass_line(i: usize, segments: i64) {
-    io::write_all(1, b"pass ");
-    io::print_decimal(1, i as u64);
-    io::write_all(1, b" ");
-    decimal(1, segments);
-    io::write_all(1, b"\n");
-}
-
-// The four numbers of a segment.
-fn segment_line(first: i64, count: i64, offset: i64, rate: i64) {
-    decimal(1, first);
-    io::write_all(1, b" ");
-    decimal(1, count);
-    io::write_all(1, b" ");
-    decimal(1, offset);
-    io::write_all(1, b" ");
-    decimal(1, rate);
-    io::write_all(1, b"\n");
-}
-
-// "then one line a segment": the first m segments of the room.
-fn segment_lines(room: &[i64], m: i64) {
-    let places = room.len() / 4;
-    let count = size(m) as usize;
-    let mut i: usize = 0;
-    while i < places {
-        if i >= count {
-            return;
-        }
-        let b = 4 * i;
-        segment_line(room[b], room[b + 1], room[b + 2], room[b + 3]);
-        i += 1;
-    }
-}
-
-// ---- what a refusal means, in plain words, on standard error
 
 // What the number says, of a file or of a pass.
 fn meaning(n: i64) {
@@ -106,7 +63,7 @@ fn section(kind: i64) {
 fn where_in_table(field: i64) {
     if field < 13 {
         io::write_all(2, b"number ");
-        decimal(2, field);
+        decimal(field);
         io::write_all(2, b" of the contents table, counted from 0");
     } else {
         io::write_all(2, b"the length of the file");
@@ -115,13 +72,13 @@ fn where_in_table(field: i64) {
 
 fn where_in_section(p: Place) {
     io::write_all(2, b"section ");
-    decimal(2, p.section);
+    decimal(p.section);
     io::write_all(2, b" (");
     section(p.section);
     io::write_all(2, b"), record ");
-    decimal(2, p.record);
+    decimal(p.record);
     io::write_all(2, b", field ");
-    decimal(2, p.field);
+    decimal(p.field);
     io::write_all(2, b", both counted from 0");
 }
 
@@ -129,7 +86,7 @@ fn where_in_section(p: Place) {
 fn explain_file(file: &[u8]) {
     let p = session::fault(file);
     io::write_all(2, b"refused ");
-    decimal(2, p.number);
+    decimal(p.number);
     io::write_all(2, b": ");
     meaning(p.number);
     io::write_all(2, b"; see ");
@@ -145,7 +102,7 @@ fn explain_pass(i: usize, n: i64) {
     io::write_all(2, b"pass ");
     io::print_decimal(2, i as u64);
     io::write_all(2, b" refused ");
-    decimal(2, n);
+    decimal(n);
     io::write_all(2, b": ");
     meaning(n);
     io::write_all(2, b"\n");
@@ -165,26 +122,44 @@ fn explain_passes(refusals: &[i64; 64]) {
 
 // ---- the work
 
-// Prints the track of a pass, or its refusal, and answers the refusal's number. 2,048 segments always fit.
-fn print_pass(file: &[u8], i: usize) -> i64 {
-    let mut room = [0i64; 8192];
-    let r = pass_track(file, i, &mut room);
-    let n = r.refusal;
-    if n != 0 {
-        refused(n);
-        return n;
-    }
-    let m = r.value;
-    pass_line(i, m);
-    segment_lines(&room, m);
-    0
+// Writes the whole text of a file to standard output; the file says which text that is.
+fn write_session(text: &[u8], file: &[u8])
+    requires { ⌜ now text ≡ sessionText (now file) ⌝ }
+{
+    io::write_all(1, text);
 }
 
-// Prints each pass in turn, and keeps the refusals' numbers.
-fn print_passes(file: &[u8], passes: usize, refusals: &mut [i64; 64]) {
+// Writes the text of a pass to standard output; the file and the pass say which text that is.
+fn write_pass(text: &[u8], file: &[u8], i: usize)
+    requires { ⌜ now text ≡ passText (now file) i ⌝ }
+{
+    io::write_all(1, text);
+}
+
+// Prints the one line of a file that is refused with this number, from the room for it.
+fn print_refused(file: &[u8], n: i64, room: &mut [u8])
+    requires { ⌜ (29 ≤ length (now room)) × (sessionText (now file) ≡ refusedLine n) ⌝ }
+{
+    let end = refused_text(room, n);
+    write_session(&room[..end], file);
+}
+
+// Prints the text of a pass, from the room for it, and answers the refusal's number.
+fn print_pass(file: &[u8], i: usize, room: &mut [u8]) -> i64
+    requires { ⌜ 172100 ≤ length (now room) ⌝ }
+{
+    let t = pass_text(file, i, room);
+    write_pass(&room[..t.length], file, i);
+    t.refusal
+}
+
+// Prints each pass in turn, from the room for its text, and keeps the refusals' numbers. Their texts are the file's whole text.
+fn print_passes(file: &[u8], passes: usize, room: &mut [u8], refusals: &mut [i64; 64])
+    requires { ⌜ (172100 ≤ length (now room)) × (sessionText (now file) ≡ passTexts (now file) passes) ⌝ }
+{
     let mut i: usize = 0;
     while i < passes {
-        let n = print_pass(file, i);
+        let n = print_pass(file, i, room);
         if i < 64 {
             refusals[i] = n;
         }
@@ -196,16 +171,17 @@ fn print_passes(file: &[u8], passes: usize, refusals: &mut [i64; 64]) {
 fn print_session(file: &[u8]) -> i64
     ensures { λ r. ⌜ r ≡ checkOf (now (file .entry)) .refusal ⌝ }
 {
+    let mut room = [0u8; 172100];
     let c = session::check(file);
     let n = c.refusal;
-    if n != 0 {
-        refused(n);
+    if 1 <= n {
+        print_refused(file, n, &mut room);
         explain_file(file);
         return n;
     }
     let mut refusals = [0i64; 64];
     let passes = size(c.passes) as usize;
-    print_passes(file, passes, &mut refusals);
+    print_passes(file, passes, &mut room, &mut refusals);
     explain_passes(&refusals);
     n
 }

@@ -1,14 +1,16 @@
 -- `program::print_passes` is safe and ends.
 use borrow.Author.Needs.{needs}
+use mathlib.Core.Path.{_≡_}
 use Prim.Native.Nat.{_-_, _≤_}
+use lib.ListN.{length}
 use Rattle.program.proofs.print_passes.Statement.{statement}
 use Rattle.program.proofs.print_passes.Tie as tie
 
 abbrev Inv-loop : tie.InvT-loop
-Inv-loop file passes refusals₀ i₀ refusals i = i ≤ passes
+Inv-loop file passes room₀ refusals₀ i₀ room refusals i = (i ≤ passes) × (length room ≡ length room₀)
 
 abbrev μ-loop : tie.MeasureT-loop
-μ-loop file passes refusals₀ i₀ refusals i = passes - i
+μ-loop file passes room₀ refusals₀ i₀ room refusals i = passes - i
 
 loop-holds : tie.Need-loop-holds Inv-loop μ-loop
 loop-holds c = search needs
@@ -31,6 +33,9 @@ loop-less c = search needs
 loop-again : tie.Need-loop-again Inv-loop μ-loop
 loop-again c = search needs
 
+same-length : tie.Need-same-length Inv-loop μ-loop
+same-length c = search needs
+
 returns : tie.Need-returns Inv-loop μ-loop
 returns c = search needs
 
@@ -47,4 +52,5 @@ print-passes-spec =
     add-i
     loop-less
     loop-again
+    same-length
     returns)

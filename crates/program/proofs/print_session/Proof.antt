@@ -1,11 +1,19 @@
--- `program::print_session` answers the number that `session::check` gives to the file.
-use mathlib.Core.Path.{_≡_, ap, _∙_}
-use lib.IntN.{ℤ}
+-- `program::print_session` answers the number that `session::check` gives to the file, and prints the file's text.
+use mathlib.Core.Path.{_≡_, sym, ap, _∙_}
+use mathlib.Core.Bool.{true, false}
+use Prim.Native.Nat.{ℕ}
+use lib.Dec.{lit≤}
+use lib.IntN.{ℤ, pos}
+use lib.ListN.{length-replicate}
+use lib.Signed.{leZ}
 use mir.Syntax.{w64}
 use mir.Val.{toZ, ofZ}
+use Rattle.whole.specs.Whole.{∣_∣}
 use Rattle.whole.proofs.Linear.{ret}
 use Rattle.session.specs.declared.Counts.{Counts}
 use Rattle.session.specs.Records.{checkOf}
+use Rattle.lines.specs.Text.{refusedLine, passTexts}
+use Rattle.lines.proofs.Session.{session-refused, session-passes}
 use borrow.Author.Needs.{needs}
 use Rattle.program.proofs.print_session.Statement.{statement}
 use Rattle.program.proofs.print_session.Tie as tie
@@ -16,39 +24,64 @@ number-is c =
     let d = c .before in
     ret (d .check .result .refusal) (c .struct-told .given .0 .1) ∙ ap (λ (r : Counts). r .refusal) (d .check .ensures)
 
+-- how many passes it prints
+passes-are : (c : tie.After-size) → let d = c .before .before .before .before in c .size .result ≡ ∣ checkOf (d .before .before .args .file .now) .passes ∣
+passes-are c =
+    let d = c .before .before .before .before in
+    c .size .ensures
+    ∙ ap ∣_∣ (ret (d .check .result .passes) (c .before .struct-told2 .given .1 .1 .1 .1 .0 .1) ∙ ap (λ (r : Counts). r .passes) (d .check .ensures))
+
 check-requires : tie.Need-check-requires
 check-requires c κs = search needs
 
-refused-requires : tie.Need-refused-requires
-refused-requires c κs = search needs
+slice-aggregate-print-refused : tie.Need-slice-aggregate-print-refused
+slice-aggregate-print-refused c = search needs
+
+print-refused-requires : tie.Need-print-refused-requires
+print-refused-requires c κs =
+    let t = c .before .before in
+    let s = t .before .before .before .args .file .now in
+    let e = number-is t in
+    let y : leZ (pos 1) (checkOf s .refusal) ≡ true = ap (leZ (pos 1)) (sym e) ∙ c .before .if1 .taken in
+    (rw (length-replicate {A = ℕ} 172100 0) (lit≤ tt), session-refused s y ∙ ap refusedLine (sym e))
 
 explain-file-requires : tie.Need-explain-file-requires
 explain-file-requires c κs = search needs
 
 returns : tie.Need-returns
-returns c = number-is (c .before .before .before)
+returns c = number-is (c .before .before .before .before .before)
 
 size-requires : tie.Need-size-requires
 size-requires c κs = search needs
 
+slice-aggregate-print-passes : tie.Need-slice-aggregate-print-passes
+slice-aggregate-print-passes c = search needs
+
 print-passes-requires : tie.Need-print-passes-requires
-print-passes-requires c κs = search needs
+print-passes-requires c κs =
+    let t = c .before .before .before .before .before in
+    let s = t .before .before .before .args .file .now in
+    let e = number-is t in
+    let y : leZ (pos 1) (checkOf s .refusal) ≡ false = ap (leZ (pos 1)) (sym e) ∙ c .before .before .before .before .if1 .left in
+    (rw (length-replicate {A = ℕ} 172100 0) (lit≤ tt), session-passes s y ∙ ap (passTexts s) (sym (passes-are (c .before .before))))
 
 explain-passes-requires : tie.Need-explain-passes-requires
 explain-passes-requires c κs = search needs
 
 returns-2 : tie.Need-returns-2
-returns-2 c = number-is (c .before .before .before .before .before .before .before)
+returns-2 c = number-is (c .before .before .before .before .before .before .before .before .before)
 
 pub print-session-spec : {M : Type 1} → statement M
 print-session-spec =
     tie.close
     (tie.spec
     check-requires
-    refused-requires
+    slice-aggregate-print-refused
+    print-refused-requires
     explain-file-requires
     returns
     size-requires
+    slice-aggregate-print-passes
     print-passes-requires
     explain-passes-requires
     returns-2)

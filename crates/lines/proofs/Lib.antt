@@ -1,0 +1,5 @@
+pub mod Digits
+pub mod Puts
+pub mod Texts
+pub mod Session
+pub mod Segments

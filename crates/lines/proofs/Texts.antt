@@ -1,0 +1,71 @@
+-- What a pass's track leaves to be printed, and that it has room. Assumes nothing.
+use mathlib.Core.Path.{_≡_, refl, subst}
+use mathlib.Core.Bool.{Bool, true, false, cond}
+use mathlib.Core.List.{List, _++_}
+use Prim.Native.Nat.{ℕ, _+_, _*_, _/_, _≤_}
+use native.Mathlib.Omega.{arith}
+use borrow.Author.Tests.{leb-true}
+use lib.Dec.{eqb, leb}
+use lib.IntN.{ℤ, pos}
+use lib.ListN.{length, drop, replicate, length-append, length-replicate}
+use lib.Signed.{leZ}
+use Rattle.whole.specs.Whole.{P, N}
+use Rattle.session.specs.Records.{passAt}
+use Rattle.delay.specs.Calls.{samplesNumber}
+use Rattle.track.specs.Segments.{Segment, flat}
+use Rattle.track.specs.Made.{trackOf}
+use Rattle.track.specs.Answer.{Outcome, inRange, outcome, refused, written}
+use Rattle.track.proofs.Runs.{flat-length}
+use Rattle.fringe.specs.PassTrack.{passSamples, passOutcome}
+use Rattle.lines.specs.Text.{refusedLine, passLine, segmentLines, outcomeText, lentOutcome}
+
+-- as many segments as the outcome says stand in its room, and there is room for k
+pub record Holds (k : ℕ) (o : Outcome) : Type 0 where
+  pub counted : N (o .answer .value) ≡ 0
+  pub few : P (o .answer .value) ≤ k
+  pub there : 4 * P (o .answer .value) ≤ length (o .room)
+
+either : (k : ℕ) (t : Bool) (x y : Outcome) → (t ≡ true → Holds k x) → Holds k y → Holds k (cond t x y)
+either k true x y h g = h refl
+either k false x y h g = g
+
+none : (k n : ℕ) (room : List ℤ) → Holds k (refused n room)
+none k n room = record { counted = refl; few = omega arith; there = omega arith }
+
+some : (k : ℕ) (xs : List Segment) (room : List ℤ) → length xs ≤ k → Holds k (written xs room)
+some k xs room h =
+    record {
+      counted = refl;
+      few = h;
+      there = omega (arith, length-append (flat xs) (drop (4 * length xs) room), flat-length xs);
+    }
+
+track-holds : (s : List ℤ) (t : ℤ) (room : List ℤ) → Holds (length room / 4) (outcome s t room)
+unfolding outcome
+track-holds s t room =
+    let xs = trackOf s (P t) in
+    let k = length room / 4 in
+    either k (inRange s t) _ _
+    (λ (_ : inRange s t ≡ true). either k (leb (length xs) k) _ _ (λ (e : leb (length xs) k ≡ true). some k xs room (leb-true (length xs) k e)) (none k 8 room))
+    (none k 2 room)
+
+pass-holds : (s : List ℕ) (i : ℕ) (room : List ℤ) → Holds (length room / 4) (passOutcome s i room)
+unfolding passOutcome
+pass-holds s i room =
+    let n = samplesNumber s i 4096 in
+    either (length room / 4) (eqb n 0) _ _ (λ (_ : eqb n 0 ≡ true). track-holds (passSamples s i) (passAt s i .tolerance) room) (none (length room / 4) n room)
+
+-- "It lends room for 2,048 segments, which is always enough" of the room for their lines
+pub lent-holds : (s : List ℕ) (i : ℕ) → Holds 2048 (lentOutcome s i)
+lent-holds s i = subst (λ (n : ℕ). Holds (n / 4) (lentOutcome s i)) (length-replicate 8192 (pos 0)) (pass-holds s i (replicate 8192 (pos 0)))
+
+-- ---- the text, by its two cases
+
+pub refused-is : (i : ℕ) (o : Outcome) → leZ (pos 1) (o .answer .refusal) ≡ true → outcomeText i o ≡ refusedLine (o .answer .refusal)
+unfolding outcomeText
+refused-is i o e = rw e
+
+pub made-is : (i : ℕ) (o : Outcome) → leZ (pos 1) (o .answer .refusal) ≡ false
+    → outcomeText i o ≡ passLine i (o .answer .value) ++ segmentLines (o .room) (P (o .answer .value))
+unfolding outcomeText
+made-is i o e = rw e

@@ -1,0 +1,64 @@
+-- Document 01, 'Numbers to meet', the track program: what it prints, as bytes of ASCII.
+use Prim.Native.Nat.{ℕ, zero, suc, _+_, _*_}
+use mathlib.Core.Bool.{cond}
+use mathlib.Core.List.{List, [], _∷_, _++_}
+use lib.Dec.{leb}
+use lib.IntN.{ℤ, pos}
+use lib.ListN.{getD, replicate}
+use lib.Signed.{leZ}
+use Rattle.whole.specs.Whole.{P}
+use Rattle.sections.specs.File.{refusalOf, countOf}
+use Rattle.track.specs.Segments.{Segment}
+use Rattle.track.specs.Answer.{Outcome}
+use Rattle.fringe.specs.PassTrack.{passOutcome}
+use Rattle.lines.specs.Decimal.{decimal}
+
+-- numbers with one space between, ended by a line feed
+unfoldable pub lineOf : ℤ → List ℤ → List ℕ
+lineOf z [] = decimal z ++ (10 ∷ [])
+lineOf z (y ∷ ys) = decimal z ++ (32 ∷ []) ++ lineOf y ys
+
+-- "prints `refused` and the number"
+unfoldable pub refusedLine : ℤ → List ℕ
+refusedLine n = (114 ∷ 101 ∷ 102 ∷ 117 ∷ 115 ∷ 101 ∷ 100 ∷ 32 ∷ []) ++ lineOf n []
+
+-- "`pass 0 1` ...: pass index and segment count"
+unfoldable pub passLine : ℕ → ℤ → List ℕ
+passLine i m = (112 ∷ 97 ∷ 115 ∷ 115 ∷ 32 ∷ []) ++ lineOf (pos i) (m ∷ [])
+
+-- "one line a segment": the four numbers of a segment, which stand from number b on
+unfoldable pub segmentLine : List ℤ → ℕ → List ℕ
+segmentLine room b = lineOf (getD room b (pos 0)) (getD room (b + 1) (pos 0) ∷ getD room (b + 2) (pos 0) ∷ getD room (b + 3) (pos 0) ∷ [])
+
+-- the lines of the first m segments of a room
+unfoldable pub segmentLines : List ℤ → ℕ → List ℕ
+segmentLines room zero = []
+segmentLines room (suc m) = segmentLines room m ++ segmentLine room (4 * m)
+
+-- the same of a list of segments: proofs/Segments.antt shows that its lines are those of the room that it stands in
+unfoldable pub linesOf : List Segment → List ℕ
+linesOf [] = []
+linesOf (x ∷ xs) = lineOf (pos (x .first)) (pos (x .count) ∷ x .offset ∷ x .rate ∷ []) ++ linesOf xs
+
+-- "a refused pass prints them in place of its lines"
+unfoldable pub outcomeText : ℕ → Outcome → List ℕ
+outcomeText i o =
+    let n = o .answer .refusal in
+    let m = o .answer .value in
+    cond (leZ (pos 1) n) (refusedLine n) (passLine i m ++ segmentLines (o .room) (P m))
+
+-- "It lends room for 2,048 segments": what `fringe::pass_track` answers for pass i of a file, and leaves there
+abbrev pub lentOutcome : List ℕ → ℕ → Outcome
+lentOutcome s i = passOutcome s i (replicate 8192 (pos 0))
+
+unfoldable pub passText : List ℕ → ℕ → List ℕ
+passText s i = outcomeText i (lentOutcome s i)
+
+-- the first m passes, one behind the other
+unfoldable pub passTexts : List ℕ → ℕ → List ℕ
+passTexts s zero = []
+passTexts s (suc m) = passTexts s m ++ passText s m
+
+-- all that the program prints for a file
+unfoldable pub sessionText : List ℕ → List ℕ
+sessionText s = cond (leb 1 (refusalOf s)) (refusedLine (pos (refusalOf s))) (passTexts s (countOf s 3))
