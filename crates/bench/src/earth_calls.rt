@@ -1,7 +1,7 @@
 use earth::AngleAnswer;
 use earth::EpochAnswer;
-use earth::NumberAnswer;
 use earth::TicksAnswer;
+use whole::Number;
 ghost use mathlib.Core.Path.{_≡_};
 ghost use Rattle.earth.specs.Calls.{laterOutcome, argumentsOutcome, tideOutcome, angleOutcome};
 
@@ -20,7 +20,7 @@ pub extern "C" fn bench_arguments(day: i64, ms: i64, tai: i64) -> TicksAnswer
 }
 
 #[no_mangle]
-pub extern "C" fn bench_tide(day: i64, ms: i64, tai: i64) -> NumberAnswer
+pub extern "C" fn bench_tide(day: i64, ms: i64, tai: i64) -> Number
     ensures { λ r. ⌜ r ≡ tideOutcome day ms tai ⌝ }
 {
     earth::tide(day, ms, tai)

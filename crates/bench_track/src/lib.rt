@@ -2,7 +2,7 @@
 ghost use mathlib.Core.Path.{_≡_};
 ghost use Rattle.track.specs.Answer.{Outcome, outcome};
 ghost use Rattle.predict.specs.Lent.{predictOutcome};
-use track::Number;
+use whole::Number;
 
 #[no_mangle]
 pub extern "C" fn bench_track(samples: &[i64], tolerance: i64, room: &mut [i64]) -> Number

@@ -9,7 +9,7 @@ use borrow.Author.Tests.{ne-eqb}
 use lib.ListN.{length, getD, drop}
 use lib.IntN.{ℤ, pos, negℤ}
 use Rattle.whole.specs.Whole.{∣_∣}
-use Rattle.earth.specs.declared.NumberAnswer.{NumberAnswer}
+use Rattle.whole.specs.declared.Number.{Number}
 use Rattle.earth.specs.declared.time.Epoch.{Epoch}
 use Rattle.earth.specs.Calls.{epochOf}
 use Rattle.earth.specs.Ranges.{InMs, dayOk, msOk}
@@ -35,10 +35,10 @@ use Rattle.delay.proofs.Written.{sample-at}
 pub orientation-one : (s : List ℕ) (day ms : ℤ) (a b : EarthAnswer) → a ≡ orientationOutcome s day ms → b ≡ orientationOutcome s day ms → a ≡ b
 orientation-one s day ms a b p q = p ∙ sym q
 
-pub delay-one : (s : List ℕ) (i j r day ms : ℤ) (a b : NumberAnswer) → a ≡ delayOutcome s i j r day ms → b ≡ delayOutcome s i j r day ms → a ≡ b
+pub delay-one : (s : List ℕ) (i j r day ms : ℤ) (a b : Number) → a ≡ delayOutcome s i j r day ms → b ≡ delayOutcome s i j r day ms → a ≡ b
 delay-one s i j r day ms a b p q = p ∙ sym q
 
-pub samples-one : (s : List ℕ) (i : ℕ) (room : List ℤ) (a b : NumberAnswer) (x y : List ℤ) → a ≡ samplesOutcome s i (length room) → x ≡ samplesRoom s i room → b ≡ samplesOutcome s i (length room) → y ≡ samplesRoom s i room → (a ≡ b) × (x ≡ y)
+pub samples-one : (s : List ℕ) (i : ℕ) (room : List ℤ) (a b : Number) (x y : List ℤ) → a ≡ samplesOutcome s i (length room) → x ≡ samplesRoom s i room → b ≡ samplesOutcome s i (length room) → y ≡ samplesRoom s i room → (a ≡ b) × (x ≡ y)
 samples-one s i room a b x y p q u v = (p ∙ sym u, q ∙ sym v)
 
 -- ---- exchanging the stations

@@ -7,7 +7,7 @@ use lib.IntN.{ℤ, pos, natAbs}
 use lib.Dec.{leb, ltb, eqb}
 use lib.Signed.{leZ}
 use Rattle.earth.specs.declared.time.Epoch.{Epoch}
-use Rattle.earth.specs.declared.NumberAnswer.{NumberAnswer}
+use Rattle.whole.specs.declared.Number.{Number}
 use Rattle.earth.specs.Ranges.{dayOk, msOk}
 use Rattle.earth.specs.Calls.{epochOf}
 use Rattle.session.specs.declared.Pass.{Pass}
@@ -76,13 +76,13 @@ delayNumber s a b r day ms =
 unfoldable pub delayIn : List ℕ → ℤ → ℤ → ℤ → Epoch → ℤ
 delayIn s a b r e = delayBetween (stationBy s a) (stationBy s b) (sourceBy s r) (earthIn s e)
 
-abbrev pub number : ℤ → NumberAnswer
+abbrev pub number : ℤ → Number
 number v = record { refusal = pos 0; value = v }
 
-abbrev pub noNumber : ℕ → NumberAnswer
+abbrev pub noNumber : ℕ → Number
 noNumber n = record { refusal = pos n; value = pos 0 }
 
-unfoldable pub delayOutcome : List ℕ → ℤ → ℤ → ℤ → ℤ → ℤ → NumberAnswer
+unfoldable pub delayOutcome : List ℕ → ℤ → ℤ → ℤ → ℤ → ℤ → Number
 delayOutcome s a b r day ms =
     let n = delayNumber s a b r day ms in
     cond (eqb n 0) (number (delayIn s a b r (epochOf day ms))) (noNumber n)
@@ -117,7 +117,7 @@ abbrev pub firstValues : ℕ → (ℕ → ℤ) → List ℤ
 firstValues zero f = []
 firstValues (suc n) f = firstValues n f ++ (f n ∷ [])
 
-unfoldable pub samplesOutcome : List ℕ → ℕ → ℕ → NumberAnswer
+unfoldable pub samplesOutcome : List ℕ → ℕ → ℕ → Number
 samplesOutcome s i room =
     let n = samplesNumber s i room in
     cond (eqb n 0) (number (passOf s i .samples)) (noNumber n)

@@ -4,7 +4,6 @@ pub mod pass;
 pub mod records;
 
 use earth::Epoch;
-use earth::NumberAnswer;
 use pass::all_covered;
 use pass::write_samples;
 use records::covers;
@@ -16,6 +15,7 @@ use sections::refusal::refusal_of;
 use session::records::pass_of;
 use wave::delay_between;
 use wave::sight_of;
+use whole::Number;
 use whole::sign::in_range;
 ghost use mathlib.Core.Path.{_≡_};
 ghost use mathlib.Core.Bool.{_&&_};
@@ -61,11 +61,11 @@ fn no_earth(n: usize) -> EarthAnswer
     }
 }
 
-fn no_number(n: usize) -> NumberAnswer
+fn no_number(n: usize) -> Number
     requires { ⌜ n < 65536 ⌝ }
     ensures { λ r. ⌜ r ≡ noNumber n ⌝ }
 {
-    NumberAnswer {
+    Number {
         refusal: number(n),
         value: 0,
     }
@@ -112,14 +112,7 @@ fn asked_ok(station1: i64, station2: i64, source: i64, day: i64, ms: i64) -> boo
 }
 
 // The delay in picoseconds, at an epoch, of the stations and the source that the ids name.
-pub fn delay(
-    file: &[u8],
-    station1: i64,
-    station2: i64,
-    source: i64,
-    day: i64,
-    ms: i64,
-) -> NumberAnswer
+pub fn delay(file: &[u8], station1: i64, station2: i64, source: i64, day: i64, ms: i64) -> Number
     ensures { λ r. ⌜ r ≡ delayOutcome (now (file .entry)) station1 station2 source day ms ⌝ }
 {
     let n = judged(
@@ -141,14 +134,14 @@ pub fn delay(
     let b = names.second;
     let r = names.source;
     let value = delay_between(a, b, r, e);
-    NumberAnswer {
+    Number {
         refusal: 0,
         value: value,
     }
 }
 
 // The samples of a pass, written from the start of the room.
-pub fn samples(file: &[u8], pass: usize, room: &mut [i64]) -> NumberAnswer
+pub fn samples(file: &[u8], pass: usize, room: &mut [i64]) -> Number
     ensures { λ r. ⌜ (r ≡ samplesOutcome (now (file .entry)) pass (length (now (room .entry)))) × (now (room .exit) ≡ samplesRoom (now (file .entry)) pass (now (room .entry))) ⌝ }
 {
     let n = refusal_of(file);
@@ -176,7 +169,7 @@ pub fn samples(file: &[u8], pass: usize, room: &mut [i64]) -> NumberAnswer
     let b = names.second;
     let r = names.source;
     write_samples(file, p, sight_of(a, b, r), room);
-    NumberAnswer {
+    Number {
         refusal: 0,
         value: p.samples,
     }

@@ -5,7 +5,7 @@ use Prim.Native.Nat.{ℕ}
 use lib.IntN.{ℤ}
 use Rattle.earth.specs.declared.EpochAnswer.{EpochAnswer}
 use Rattle.earth.specs.declared.TicksAnswer.{TicksAnswer}
-use Rattle.earth.specs.declared.NumberAnswer.{NumberAnswer}
+use Rattle.whole.specs.declared.Number.{Number}
 use Rattle.earth.specs.declared.AngleAnswer.{AngleAnswer}
 use Rattle.earth.specs.Rotation.{rotationOf}
 use Rattle.earth.specs.Calls.{laterOutcome, argumentsOutcome, tideOutcome, angleOutcome}
@@ -16,7 +16,7 @@ later-one day ms add r s p q = p ∙ sym q
 pub arguments-one : (day ms tai : ℤ) (r s : TicksAnswer) → r ≡ argumentsOutcome day ms tai → s ≡ argumentsOutcome day ms tai → r ≡ s
 arguments-one day ms tai r s p q = p ∙ sym q
 
-pub tide-one : (day ms tai : ℤ) (r s : NumberAnswer) → r ≡ tideOutcome day ms tai → s ≡ tideOutcome day ms tai → r ≡ s
+pub tide-one : (day ms tai : ℤ) (r s : Number) → r ≡ tideOutcome day ms tai → s ≡ tideOutcome day ms tai → r ≡ s
 tide-one day ms tai r s p q = p ∙ sym q
 
 pub angle-one : (day f : ℤ) (r s : AngleAnswer) → r ≡ angleOutcome day f → s ≡ angleOutcome day f → r ≡ s

@@ -6,7 +6,7 @@ use Rattle.earth.specs.declared.time.Epoch.{Epoch}
 use Rattle.earth.specs.declared.ticks.Delaunay.{Delaunay}
 use Rattle.earth.specs.declared.EpochAnswer.{EpochAnswer}
 use Rattle.earth.specs.declared.TicksAnswer.{TicksAnswer}
-use Rattle.earth.specs.declared.NumberAnswer.{NumberAnswer}
+use Rattle.whole.specs.declared.Number.{Number}
 use Rattle.earth.specs.declared.AngleAnswer.{AngleAnswer}
 use Rattle.earth.specs.Ranges.{dayOk, msOk, taiOk, addOk, fOk}
 use Rattle.earth.specs.Epoch.{laterOf}
@@ -24,7 +24,7 @@ abbrev pub ticksOr2 : Bool → ℤ → Delaunay → TicksAnswer
 ticksOr2 true n a = record { refusal = pos 0; n = n; l = a .l; lp = a .lp; f = a .f; d = a .d; om = a .om }
 ticksOr2 false n a = record { refusal = pos 2; n = pos 0; l = 0; lp = 0; f = 0; d = 0; om = 0 }
 
-abbrev pub numberOr2 : Bool → ℤ → NumberAnswer
+abbrev pub numberOr2 : Bool → ℤ → Number
 numberOr2 true v = record { refusal = pos 0; value = v }
 numberOr2 false v = record { refusal = pos 2; value = pos 0 }
 
@@ -46,7 +46,7 @@ argumentsOutcome day ms tai =
     ticksOr2 (dayOk day && (msOk ms && taiOk tai)) n (argumentsOf n)
 
 -- tide(day, ms, tai): nanoseconds
-unfoldable pub tideOutcome : ℤ → ℤ → ℤ → NumberAnswer
+unfoldable pub tideOutcome : ℤ → ℤ → ℤ → Number
 tideOutcome day ms tai = numberOr2 (dayOk day && (msOk ms && taiOk tai)) (tideOf (epochOf day ms) tai)
 
 -- angle_at(day, f): E, then ERA

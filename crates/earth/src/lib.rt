@@ -9,6 +9,7 @@ pub use ticks::Delaunay;
 use ticks::arguments_at;
 pub use time::Epoch;
 use turn::turn_of;
+use whole::Number;
 use whole::long::rotation_ticks;
 use whole::sign::in_range;
 ghost use mathlib.Core.Path.{_≡_};
@@ -35,12 +36,6 @@ pub struct TicksAnswer {
     pub f: u32,
     pub d: u32,
     pub om: u32,
-}
-
-#[repr(C)]
-pub struct NumberAnswer {
-    pub refusal: i64,
-    pub value: i64,
 }
 
 // E, and ERA.
@@ -106,17 +101,17 @@ pub fn arguments(day: i64, ms: i64, tai: i64) -> TicksAnswer
 }
 
 // The tide in UT1 in nanoseconds at an epoch, where TAI-UTC is `tai` seconds.
-pub fn tide(day: i64, ms: i64, tai: i64) -> NumberAnswer
+pub fn tide(day: i64, ms: i64, tai: i64) -> Number
     ensures { λ r. ⌜ r ≡ tideOutcome day ms tai ⌝ }
 {
     if epoch_ok(day, ms, tai, 99) {
         let n = Epoch { day: day, ms: ms }.minutes(tai);
-        return NumberAnswer {
+        return Number {
             refusal: 0,
             value: tide_at_minute(n),
         };
     }
-    NumberAnswer {
+    Number {
         refusal: 2,
         value: 0,
     }

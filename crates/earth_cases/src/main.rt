@@ -29,7 +29,7 @@ fn print_arguments(a: earth::TicksAnswer) {
     print_tick(a.om);
 }
 
-fn print_number(a: earth::NumberAnswer) {
+fn print_number(a: whole::Number) {
     print(a.refusal);
     print_next(a.value);
 }

@@ -1,5 +1,5 @@
 // What reaches across the layers: the track of a pass, which specs/PassTrack.antt defines, and the table of document 01's starred cases, specs/Starred.antt.
-use track::Number;
+use whole::Number;
 use whole::sign::size;
 ghost use mathlib.Core.Path.{_≡_};
 ghost use Rattle.track.specs.Answer.{Outcome};

@@ -1,8 +1,8 @@
 // Ticks, epochs, and Earth rotation.
 use earth::AngleAnswer;
 use earth::EpochAnswer;
-use earth::NumberAnswer;
 use earth::TicksAnswer;
+use whole::Number;
 ghost use mathlib.Core.Path.{_≡_};
 ghost use Rattle.sine.specs.Sine.{sineOf, cosineOf};
 ghost use Rattle.earth.specs.Rotation.{rotationOf};
@@ -52,7 +52,7 @@ pub extern "C" fn fringe_arguments(day: i64, ms: i64, tai: i64) -> TicksAnswer
 }
 
 #[no_mangle]
-pub extern "C" fn fringe_tide(day: i64, ms: i64, tai: i64) -> NumberAnswer
+pub extern "C" fn fringe_tide(day: i64, ms: i64, tai: i64) -> Number
     ensures { λ r. ⌜ r ≡ tideOutcome day ms tai ⌝ }
 {
     earth::tide(day, ms, tai)

@@ -1,6 +1,6 @@
 // Orientation, delays, and the samples of a pass.
 use delay::EarthAnswer;
-use earth::NumberAnswer;
+use whole::Number;
 ghost use mathlib.Core.Path.{_≡_};
 ghost use lib.ListN.{length};
 ghost use Rattle.delay.specs.Calls.{orientationOutcome, delayOutcome, samplesOutcome, samplesRoom};
@@ -20,14 +20,14 @@ pub extern "C" fn fringe_delay(
     source: i64,
     day: i64,
     ms: i64,
-) -> NumberAnswer
+) -> Number
     ensures { λ r. ⌜ r ≡ delayOutcome (now (file .entry)) station1 station2 source day ms ⌝ }
 {
     delay::delay(file, station1, station2, source, day, ms)
 }
 
 #[no_mangle]
-pub extern "C" fn fringe_samples(file: &[u8], pass: usize, room: &mut [i64]) -> NumberAnswer
+pub extern "C" fn fringe_samples(file: &[u8], pass: usize, room: &mut [i64]) -> Number
     ensures { λ r. ⌜ (r ≡ samplesOutcome (now (file .entry)) pass (length (now (room .entry)))) × (now (room .exit) ≡ samplesRoom (now (file .entry)) pass (now (room .entry))) ⌝ }
 {
     delay::samples(file, pass, room)

@@ -5,7 +5,7 @@ use session::Pass;
 use session::Place;
 use session::Source;
 use session::Station;
-use writer::Written;
+use whole::Number;
 ghost use mathlib.Core.Path.{_≡_};
 ghost use Rattle.session.specs.Records.{checkOf, stationAt, sourceAt, dayAt, passAt};
 ghost use Rattle.session.specs.Fault.{faultOf};
@@ -60,7 +60,7 @@ pub extern "C" fn fringe_write(
     days: &[i64],
     passes: &[i64],
     room: &mut [u8],
-) -> Written
+) -> Number
     ensures { λ w. ⌜ (w ≡ writtenOf (now (stations .entry)) (now (sources .entry)) (now (days .entry)) (now (passes .entry)) (now (room .entry)))
         × (now (room .exit) ≡ roomAfter (now (stations .entry)) (now (sources .entry)) (now (days .entry)) (now (passes .entry)) (now (room .entry))) ⌝ }
 {

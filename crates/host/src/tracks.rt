@@ -1,6 +1,6 @@
 // Tracks, and what they predict.
 use predict::Host;
-use track::Number;
+use whole::Number;
 ghost use mathlib.Core.Path.{_≡_};
 ghost use Rattle.track.specs.Answer.{Outcome, outcome};
 ghost use Rattle.predict.specs.Lent.{predictOutcome};

@@ -8,7 +8,7 @@ use native.Mathlib.Omega.{arith}
 use lib.IntN.{ℤ, pos, _-ℤ_}
 use Rattle.whole.specs.Whole.{P, ∣_∣}
 use Rattle.fit.proofs.Tests.{lt-or}
-use Rattle.track.specs.declared.Number.{Number}
+use Rattle.whole.specs.declared.Number.{Number}
 use Rattle.predict.specs.declared.Host.{Host}
 use Rattle.predict.specs.Lent.{Lent, lentOf, soundFrom, covers, coveredBy, predicted, answerAt, refused, predictOutcome}
 use Rattle.predict.specs.Host.{hostOutcome}

@@ -8,7 +8,7 @@ use lib.IntN.{ℤ, pos, _+ℤ_, _-ℤ_, _*ℤ_}
 use lib.Signed.{leZ, ltZ}
 use Rattle.whole.specs.Whole.{P, ∣_∣, R}
 use Rattle.whole.specs.Each.{allBelow}
-use Rattle.track.specs.declared.Number.{Number}
+use Rattle.whole.specs.declared.Number.{Number}
 
 -- a segment's four numbers, as they are lent
 pub record Lent : Type 0 where

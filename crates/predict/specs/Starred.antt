@@ -3,7 +3,7 @@ use Prim.Native.Nat.{ℕ}
 use mathlib.Core.List.{List, [], _∷_}
 use lib.IntN.{ℤ, pos}
 use Rattle.whole.specs.Cases.{Case, case}
-use Rattle.track.specs.declared.Number.{Number}
+use Rattle.whole.specs.declared.Number.{Number}
 use Rattle.track.specs.Starred.{bent}
 use Rattle.predict.specs.Lent.{predictOutcome}
 

@@ -5,7 +5,7 @@ ghost use Prim.Native.Nat.{_^_, _≤_};
 ghost use Rattle.whole.specs.Whole.{∣_∣, R};
 ghost use Rattle.predict.specs.Lent.{lentOf, soundFrom, answerAt};
 use super::segment::segment_ok;
-use track::Number;
+use whole::Number;
 use whole::divide::floor_div;
 use whole::divide::half;
 use whole::sign::size;

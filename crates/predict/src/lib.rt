@@ -3,7 +3,7 @@
 ghost use mathlib.Core.Path.{_≡_};
 ghost use Rattle.predict.specs.Lent.{predictOutcome};
 ghost use Rattle.predict.specs.Host.{hostOutcome};
-use track::Number;
+use whole::Number;
 
 pub mod doubles;
 pub mod lent;

@@ -9,7 +9,7 @@ use lib.Signed.{leZ}
 use Rattle.whole.specs.Whole.{P, ∣_∣}
 use Rattle.whole.specs.Each.{allBelow}
 use Rattle.fit.specs.Line.{sample}
-use Rattle.track.specs.declared.Number.{Number}
+use Rattle.whole.specs.declared.Number.{Number}
 use Rattle.track.specs.Segments.{Segment, flat}
 use Rattle.track.specs.Made.{trackOf}
 

@@ -2,17 +2,11 @@
 // specs/Segments.antt says what a track is, specs/Rule.antt which one is made, specs/Answer.antt what the call answers.
 ghost use mathlib.Core.Path.{_≡_};
 ghost use Rattle.track.specs.Answer.{Outcome, outcome};
+use whole::Number;
 
 pub mod count;
 pub mod range;
 pub mod write;
-
-// What a call answers: 0 or the refusal's number, and a value, which is 0 where refused.
-#[repr(C)]
-pub struct Number {
-    pub refusal: i64,
-    pub value: i64,
-}
 
 // Writes the track of the samples to the start of the room, four numbers to a segment, and answers how many segments that is.
 pub fn track(samples: &[i64], tolerance: i64, room: &mut [i64]) -> Number

@@ -2,3 +2,10 @@
 pub mod divide;
 pub mod long;
 pub mod sign;
+
+// What a call answers: 0 or the refusal's number, and a value, which is 0 where refused.
+#[repr(C)]
+pub struct Number {
+    pub refusal: i64,
+    pub value: i64,
+}

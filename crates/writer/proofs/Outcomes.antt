@@ -10,7 +10,7 @@ use lib.IntN.{ℤ, pos}
 use lib.Dec.{leb, eqb}
 use borrow.Author.Tests.{le-leb, lt-leb, leb-true, eq-eqb, ne-eqb}
 use Rattle.sections.specs.File.{refusalOf}
-use Rattle.writer.specs.declared.Written.{Written}
+use Rattle.whole.specs.declared.Number.{Number}
 use Rattle.writer.specs.declared.Kinds.{Kinds}
 use Rattle.writer.specs.Bytes.{pasted}
 use Rattle.writer.specs.Writing.{listsRight, fileOf, orElse, answerOf, writeRefusal, writtenAs, roomAs}

@@ -11,7 +11,7 @@ use Rattle.sections.specs.File.{refusalOf}
 use Rattle.session.specs.declared.Counts.{Counts}
 use Rattle.session.specs.Records.{checkOf}
 use Rattle.session.proofs.Answers.{check-accepted}
-use Rattle.writer.specs.declared.Written.{Written}
+use Rattle.whole.specs.declared.Number.{Number}
 use Rattle.writer.specs.Bytes.{pasted}
 use Rattle.writer.specs.Writing.{listsRight, fileOf, kinds, writeRefusal, writtenOf, roomAfter}
 use Rattle.writer.specs.Handed.{stationsIn, sourcesIn, daysIn, passesIn}
@@ -27,7 +27,7 @@ module _ (p q r t : List ℤ) (room : List ℕ) where
   zero′ (yes h) e = h
   zero′ (no h) e =
       let w = answered kinds p q r t room ∙ answer-no _ _ h in
-      ap natAbs (sym (ap (λ (a : Written). a .refusal) w) ∙ e)
+      ap natAbs (sym (ap (λ (a : Number). a .refusal) w) ∙ e)
 
   module _ (e : writtenOf p q r t room .refusal ≡ pos 0) where
     none : writeRefusal kinds p q r t (length room) ≡ 0
@@ -37,7 +37,7 @@ module _ (p q r t : List ℤ) (room : List ℕ) where
     file-in : writtenIn p q r t room ≡ fileOf kinds p q r t
     file-in =
         let w = answered kinds p q r t room ∙ answer-yes _ _ none in
-        front room (roomAfter p q r t room) (fileOf kinds p q r t) _ (room-written kinds p q r t room none) (ap (λ (a : Written). natAbs (a .value)) w)
+        front room (roomAfter p q r t room) (fileOf kinds p q r t) _ (room-written kinds p q r t room none) (ap (λ (a : Number). natAbs (a .value)) w)
 
   ok : writtenOf p q r t room .refusal ≡ pos 0
       → (listsRight kinds (length p) (length q) (length r) (length t) ≡ true) × (refusalOf (fileOf kinds p q r t) ≡ 0) × (length (fileOf kinds p q r t) ≤ length room)
@@ -53,7 +53,7 @@ module _ (p q r t : List ℤ) (room : List ℕ) where
         passes = λ e. ap passesIn (file-in e) ∙ passes-back p q r t (ok e .0) lp lq lr lt (ok e .1);
       }
 
-abbrev wrote : ℕ → Written
+abbrev wrote : ℕ → Number
 wrote n = record { refusal = pos 0; value = pos n }
 
 module _ (s : List ℕ) (b : Bytes s) where

@@ -9,7 +9,7 @@ use lib.Dec.{leb, eqb}
 use Rattle.sections.specs.Layouts.{layoutIn, standsIn}
 use Rattle.sections.specs.File.{refusalOf, between}
 use Rattle.writer.specs.Bytes.{bytesOfAll, wordsOf, pasted}
-use Rattle.writer.specs.declared.Written.{Written}
+use Rattle.whole.specs.declared.Number.{Number}
 use Rattle.writer.specs.declared.Kinds.{Kinds}
 
 -- how many numbers a record of kind k in place p has
@@ -50,10 +50,10 @@ writeRefusal k p q r t room =
     (orElse (refusalOf (fileOf k p q r t)) (cond (leb (length (fileOf k p q r t)) room) 0 7)) 1
 
 -- the answer: 0 and the number of bytes written, or the refusal and 0
-unfoldable pub answerOf : ℕ → ℕ → Written
+unfoldable pub answerOf : ℕ → ℕ → Number
 answerOf refusal n = cond (eqb refusal 0) (record { refusal = pos 0; value = pos n }) (record { refusal = pos refusal; value = pos 0 })
 
-unfoldable pub writtenAs : Kinds → List ℤ → List ℤ → List ℤ → List ℤ → ℕ → Written
+unfoldable pub writtenAs : Kinds → List ℤ → List ℤ → List ℤ → List ℤ → ℕ → Number
 writtenAs k p q r t room = answerOf (writeRefusal k p q r t room) (length (fileOf k p q r t))
 
 -- the room after the call: the file from its start, the rest untouched; refused, every byte stays
@@ -64,7 +64,7 @@ roomAs k p q r t room = cond (eqb (writeRefusal k p q r t (length room)) 0) (pas
 abbrev pub kinds : Kinds
 kinds = record { first = 1; second = 2; third = 3; fourth = 4 }
 
-abbrev pub writtenOf : List ℤ → List ℤ → List ℤ → List ℤ → List ℕ → Written
+abbrev pub writtenOf : List ℤ → List ℤ → List ℤ → List ℤ → List ℕ → Number
 writtenOf p q r t room = writtenAs kinds p q r t (length room)
 
 abbrev pub roomAfter : List ℤ → List ℤ → List ℤ → List ℤ → List ℕ → List ℕ

@@ -17,13 +17,7 @@ use lists::contents_for;
 use lists::lists_right;
 use sections::refusal::number;
 use sections::refusal::refusal_of;
-
-// The answer: 0 and how many bytes are written, or the refusal and 0.
-#[repr(C)]
-pub struct Written {
-    pub refusal: i64,
-    pub value: i64,
-}
+use whole::Number;
 
 // The kinds that the four places are to have.
 pub struct Kinds {
@@ -62,17 +56,17 @@ fn or_else(x: usize, y: usize) -> usize
 }
 
 // 0 and the n bytes written, or the refusal and 0.
-fn answer(refusal: usize, n: usize) -> Written
+fn answer(refusal: usize, n: usize) -> Number
     requires { ⌜ (refusal < 9223372036854775808) × (n < 9223372036854775808) ⌝ }
     ensures { λ w. ⌜ w ≡ answerOf refusal n ⌝ }
 {
     if refusal != 0 {
-        return Written {
+        return Number {
             refusal: number(refusal),
             value: 0,
         };
     }
-    Written {
+    Number {
         refusal: 0,
         value: number(n),
     }
@@ -87,7 +81,7 @@ pub fn write_as(
     days: &[i64],
     passes: &[i64],
     room: &mut [u8],
-) -> Written
+) -> Number
     ensures { λ w. ⌜ (w ≡ writtenAs k (now (stations .entry)) (now (sources .entry)) (now (days .entry)) (now (passes .entry)) (length (now (room .entry))))
         × (now (room .exit) ≡ roomAs k (now (stations .entry)) (now (sources .entry)) (now (days .entry)) (now (passes .entry)) (now (room .entry))) ⌝ }
 {
@@ -114,7 +108,7 @@ pub fn write(
     days: &[i64],
     passes: &[i64],
     room: &mut [u8],
-) -> Written
+) -> Number
     ensures { λ w. ⌜ (w ≡ writtenOf (now (stations .entry)) (now (sources .entry)) (now (days .entry)) (now (passes .entry)) (now (room .entry)))
         × (now (room .exit) ≡ roomAfter (now (stations .entry)) (now (sources .entry)) (now (days .entry)) (now (passes .entry)) (now (room .entry))) ⌝ }
 {

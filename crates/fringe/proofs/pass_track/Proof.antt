@@ -16,7 +16,7 @@ use Rattle.whole.specs.Whole.{∣_∣}
 use Rattle.whole.proofs.Linear.{ret}
 use Rattle.session.specs.declared.Pass.{Pass}
 use Rattle.session.specs.Records.{passOf, passAt}
-use Rattle.earth.specs.declared.NumberAnswer.{NumberAnswer}
+use Rattle.whole.specs.declared.Number.{Number}
 use Rattle.delay.specs.Calls.{samplesOf, samplesNumber, samplesOutcome, samplesRoom}
 use Rattle.track.specs.Answer.{outcome}
 use Rattle.fringe.specs.PassTrack.{passSamples}
@@ -48,7 +48,7 @@ number-is : (c : tie.After-struct-told) → let d = c .before .before in toZ w64
 number-is c =
     let d = c .before .before in
     ret (d .samples2 .result .refusal) (c .struct-told .given .0 .1)
-    ∙ ap (λ (r : NumberAnswer). r .refusal) (answer d)
+    ∙ ap (λ (r : Number). r .refusal) (answer d)
     ∙ refusal-is (fileOf d) (passIn d) 4096
 
 above : (n : ℕ) → leZ (pos 1) (pos n) ≡ true → n ≡ 0 → ⊥
@@ -88,7 +88,7 @@ count c =
     let e = c .before .before .before in
     let d = e .before .before .before in
     c .size .ensures
-    ∙ ap ∣_∣ (ret (d .samples2 .result .value) (c .before .struct-told2 .given .1 .0 .1) ∙ ap (λ (r : NumberAnswer). r .value) (answer d) ∙ value-is (fileOf d) (passIn d) 4096 (accepted e))
+    ∙ ap ∣_∣ (ret (d .samples2 .result .value) (c .before .struct-told2 .given .1 .0 .1) ∙ ap (λ (r : Number). r .value) (answer d) ∙ value-is (fileOf d) (passIn d) 4096 (accepted e))
     ∙ size-is (passOf (fileOf d) (passIn d) .samples)
 
 pass-at-requires : tie.Need-pass-at-requires

@@ -11,7 +11,7 @@ use mir.Syntax.{w64}
 use mir.Val.{toZ, ofZ}
 use Rattle.whole.specs.Whole.{∣_∣}
 use Rattle.whole.proofs.Linear.{back, abs-fits}
-use Rattle.track.specs.declared.Number.{Number}
+use Rattle.whole.specs.declared.Number.{Number}
 use Rattle.predict.specs.declared.Record.{Record}
 use Rattle.predict.specs.Lent.{predictOutcome}
 use Rattle.predict.specs.Host.{recordOf, zeros, hostOutcome}
