@@ -33,7 +33,7 @@ returns c =
     let w = c .before .before .before .before .before .before .put-word in
     let n = c .before .before .put-number in
     let d = s .args .room .now in
-    let q = subst (λ (z : ℤ). Put (w .last .0) (w .result) (decimal z ++ (10 ∷ [])) (n .last .0) (n .result)) (back (s .fits .n)) (n .ensures .0) in
+    let q = simp (back (s .fits .n)) at (n .ensures .0) in
     put-then (w .ensures) (omega (arith, w .ensures .place, s .pre)) q
 
 pub refused-text-spec : {M : Type 1} → statement M
