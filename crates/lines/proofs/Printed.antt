@@ -1,12 +1,11 @@
 -- Document 01, 'Numbers to meet', the track program: "it prints in whole `pass 0 1` and `0 3 0 0`". Assumes nothing.
 use mathlib.Core.Path.{_≡_, refl}
-use mathlib.Core.List.{List, [], _∷_}
-use Prim.Native.Nat.{ℕ}
-use lib.IntN.{ℤ, pos}
+use mathlib.Core.List.{[], _∷_}
+use lib.IntN.{pos}
 use Rattle.track.specs.Segments.{Segment, flat}
 use Rattle.track.specs.Answer.{written}
 use Rattle.lines.specs.Decimal.{digitsBy, digitsOf, decimal}
-use Rattle.lines.specs.Text.{lineOf, refusedLine, passLine, segmentLine, segmentLines, outcomeText}
+use Rattle.lines.specs.Text.{lineOf, passLine, segmentLine, segmentLines, outcomeText}
 
 -- the segment of the second line
 abbrev pub three : Segment

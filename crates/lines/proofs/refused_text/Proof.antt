@@ -1,13 +1,6 @@
 -- `lines::refused_text` meets its contract. Assumes nothing.
-use mathlib.Core.Path.{_≡_, subst}
-use mathlib.Core.List.{List, [], _∷_, _++_}
-use Prim.Native.Nat.{ℕ, _+_, _≤_}
 use native.Mathlib.Omega.{arith}
-use lib.ListN.{length}
-use lib.IntN.{ℤ}
 use Rattle.whole.proofs.Linear.{back}
-use Rattle.lines.specs.Decimal.{decimal}
-use Rattle.lines.specs.Put.{Put}
 use Rattle.lines.specs.Text.{lineOf, refusedLine}
 use Rattle.lines.proofs.Puts.{put-then}
 use borrow.Author.Needs.{needs}
