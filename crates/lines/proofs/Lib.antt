@@ -3,3 +3,4 @@ pub mod Puts
 pub mod Texts
 pub mod Session
 pub mod Segments
+pub mod Printed

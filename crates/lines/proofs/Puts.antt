@@ -1,11 +1,10 @@
 -- Bytes put one behind the other. Assumes nothing.
 use mathlib.Core.Path.{_≡_, refl, sym, ap, ap₂, _∙_}
 use mathlib.Core.List.{List, [], _∷_, _++_}
-use Prim.Native.Nat.{ℕ, zero, suc, _+_, _≤_, _<_}
-use native.Mathlib.Nat.{add-zero, zero-add}
+use Prim.Native.Nat.{ℕ, suc, _+_, _≤_, _<_}
 use native.Mathlib.Numerals.{add-one}
 use native.Mathlib.Omega.{arith}
-use lib.ListN.{length, getD, set, take, drop, length-append, length-set}
+use lib.ListN.{length, getD, set, take, drop, length-append}
 use lib.Seq.{take-suc, length-take-le, set-split, take-set-le, drop-at, append-snoc, take-append-seam}
 use Rattle.writer.specs.Bytes.{pasted}
 use Rattle.writer.proofs.Paste.{pasted-none, pasted-next, pasted-long}

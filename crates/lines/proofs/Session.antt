@@ -1,18 +1,17 @@
 -- The text of a file, by what `session::check` answers for it. Assumes nothing.
-use mathlib.Core.Path.{_≡_, refl, sym, ap, _∙_}
-use mathlib.Core.Bool.{Bool, true, false, cond}
+use mathlib.Core.Path.{_≡_, sym, ap, _∙_}
+use mathlib.Core.Bool.{true, false, cond}
 use mathlib.Core.List.{List}
-use Prim.Native.Nat.{ℕ, zero, suc, _+_}
+use Prim.Native.Nat.{ℕ, zero, suc}
 use native.Mathlib.Nat.{add-zero}
 use native.Mathlib.Omega.{arith}
 use borrow.Author.Tests.{le-leb}
 use lib.Dec.{eqb, leb, eqb·suc-zero}
-use lib.IntN.{ℤ, pos}
+use lib.IntN.{pos}
 use lib.Signed.{leZ}
 use Rattle.whole.specs.Whole.{∣_∣}
 use Rattle.whole.proofs.Linear.{no-ft, no-tf}
 use Rattle.sections.specs.File.{refusalOf, countOf}
-use Rattle.session.specs.declared.Counts.{Counts}
 use Rattle.session.specs.Records.{checkOf, countsIn, noCounts}
 use Rattle.lines.specs.Text.{refusedLine, passTexts, sessionText}
 

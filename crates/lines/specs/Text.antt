@@ -51,6 +51,7 @@ outcomeText i o =
 abbrev pub lentOutcome : List ℕ → ℕ → Outcome
 lentOutcome s i = passOutcome s i (replicate 8192 (pos 0))
 
+-- what it prints for pass i of a file
 unfoldable pub passText : List ℕ → ℕ → List ℕ
 passText s i = outcomeText i (lentOutcome s i)
 

@@ -2,14 +2,14 @@
 use mathlib.Core.Path.{_≡_, sym, ap, ap₂, subst, _∙_}
 use mathlib.Core.Bool.{true, false}
 use mathlib.Core.List.{List, _++_}
-use Prim.Native.Nat.{ℕ, _+_, _*_, _≤_}
+use Prim.Native.Nat.{ℕ}
 use native.Mathlib.Omega.{arith}
-use lib.IntN.{ℤ, pos}
+use lib.IntN.{pos}
 use lib.ListN.{length}
 use lib.Signed.{leZ}
 use mir.Syntax.{w64}
 use mir.Val.{toZ, ofZ}
-use Rattle.whole.specs.Whole.{P, N, ∣_∣}
+use Rattle.whole.specs.Whole.{P, ∣_∣}
 use Rattle.whole.proofs.Linear.{ret}
 use Rattle.track.specs.Answer.{Outcome}
 use Rattle.lines.specs.Put.{Put}

@@ -1,10 +1,10 @@
 -- `lines::put_segment` meets its contract. Assumes nothing.
 use mathlib.Core.Path.{_≡_, subst}
 use mathlib.Core.List.{List, [], _∷_, _++_}
-use Prim.Native.Nat.{ℕ, _+_, _^_, _<_, _≤_}
+use Prim.Native.Nat.{ℕ, _^_, _<_, _≤_}
 use native.Mathlib.Omega.{arith}
-use lib.ListN.{length, getD}
-use lib.IntN.{ℤ, pos}
+use lib.ListN.{length}
+use lib.IntN.{ℤ}
 use lib.Signed.{mag}
 use mir.Syntax.{w64}
 use mir.Val.{toZ, ofZ}
@@ -83,10 +83,10 @@ returns c =
     let h2 : n2 .result ≤ length (n1 .last .0) = omega (arith, n1 .ensures .1, n2 .ensures .1, s .pre .0) in
     let l2 : length (n2 .last .0) ≡ length (n1 .last .0) = put-long (n2 .ensures .0) h2 in
     let h3 : n3 .result ≤ length (n2 .last .0) = omega (arith, n1 .ensures .1, n2 .ensures .1, n3 .ensures .1, s .pre .0) in
-    let p1 = number 32 (getD (s .args .segments .now) (s .args .b) (pos 0)) (c .before .before .before .before .before .before .before .before .before .before .before .before .before .before .before .before .before .before .put-number-arg2 .given) (n1 .ensures .0) in
-    let p2 = number 32 (getD (s .args .segments .now) (s .args .b + 1) (pos 0)) (c .before .before .before .before .before .before .before .before .before .before .before .before .before .put-number-arg4 .given) (n2 .ensures .0) in
-    let p3 = number 32 (getD (s .args .segments .now) (s .args .b + 2) (pos 0)) (c .before .before .before .before .before .before .before .before .put-number-arg6 .given) (n3 .ensures .0) in
-    let p4 = number 10 (getD (s .args .segments .now) (s .args .b + 3) (pos 0)) (c .before .before .before .put-number-arg8 .given) (n4 .ensures .0) in
+    let p1 = number _ _ (c .before .before .before .before .before .before .before .before .before .before .before .before .before .before .before .before .before .before .put-number-arg2 .given) (n1 .ensures .0) in
+    let p2 = number _ _ (c .before .before .before .before .before .before .before .before .before .before .before .before .before .put-number-arg4 .given) (n2 .ensures .0) in
+    let p3 = number _ _ (c .before .before .before .before .before .before .before .before .put-number-arg6 .given) (n3 .ensures .0) in
+    let p4 = number _ _ (c .before .before .before .put-number-arg8 .given) (n4 .ensures .0) in
     (put-then p1 h1 (put-then p2 h2 (put-then p3 h3 p4)), omega (arith, n1 .ensures .1, n2 .ensures .1, n3 .ensures .1, n4 .ensures .1))
 
 pub put-segment-spec : {M : Type 1} → statement M

@@ -1,7 +1,7 @@
 -- `lines::put_segments` meets its contract. Assumes nothing.
 use borrow.Author.Needs.{needs}
 use mathlib.Core.Path.{_≡_, refl, sym, ap, subst}
-use mathlib.Core.List.{List, [], _∷_, _++_}
+use mathlib.Core.List.{List, _++_}
 use Prim.Native.Nat.{ℕ, _+_, _*_, _-_, _≤_}
 use native.Mathlib.Omega.{arith}
 use native.Mathlib.Numerals.{add-one}
@@ -9,7 +9,7 @@ use lib.IntN.{ℤ}
 use lib.ListN.{length}
 use Rattle.lines.specs.Put.{Put}
 use Rattle.lines.specs.Text.{segmentLine, segmentLines}
-use Rattle.lines.proofs.Puts.{put-none, put-then, put-long}
+use Rattle.lines.proofs.Puts.{put-none, put-then}
 use Rattle.lines.proofs.put_segments.Statement.{statement}
 use Rattle.lines.proofs.put_segments.Tie as tie
 

@@ -1,13 +1,6 @@
 -- `lines::refused_text` meets its contract. Assumes nothing.
-use mathlib.Core.Path.{_≡_, subst}
-use mathlib.Core.List.{List, [], _∷_, _++_}
-use Prim.Native.Nat.{ℕ, _+_, _≤_}
 use native.Mathlib.Omega.{arith}
-use lib.ListN.{length}
-use lib.IntN.{ℤ}
 use Rattle.whole.proofs.Linear.{back}
-use Rattle.lines.specs.Decimal.{decimal}
-use Rattle.lines.specs.Put.{Put}
 use Rattle.lines.specs.Text.{lineOf, refusedLine}
 use Rattle.lines.proofs.Puts.{put-then}
 use borrow.Author.Needs.{needs}
@@ -33,7 +26,7 @@ returns c =
     let w = c .before .before .before .before .before .before .put-word in
     let n = c .before .before .put-number in
     let d = s .args .room .now in
-    let q = subst (λ (z : ℤ). Put (w .last .0) (w .result) (decimal z ++ (10 ∷ [])) (n .last .0) (n .result)) (back (s .fits .n)) (n .ensures .0) in
+    let q = simp (back (s .fits .n)) at (n .ensures .0) in
     put-then (w .ensures) (omega (arith, w .ensures .place, s .pre)) q
 
 pub refused-text-spec : {M : Type 1} → statement M

@@ -10,7 +10,9 @@ pass-text-requires : tie.Need-pass-text-requires
 pass-text-requires c κs = search needs
 
 slice-reshare-prefix-write-pass : tie.Need-slice-reshare-prefix-write-pass
-slice-reshare-prefix-write-pass c = put-inside (c .before .before .pass-text .ensures .0)
+slice-reshare-prefix-write-pass c =
+    let h = put-inside (c .before .before .pass-text .ensures .0) in
+    search needs
 
 slice-aggregate-write-pass : tie.Need-slice-aggregate-write-pass
 slice-aggregate-write-pass c = sym (length-take-le _ _ (slice-reshare-prefix-write-pass (c .before)))

@@ -12,7 +12,9 @@ refused-text-requires : tie.Need-refused-text-requires
 refused-text-requires c κs = search needs
 
 slice-reshare-prefix-write-session : tie.Need-slice-reshare-prefix-write-session
-slice-reshare-prefix-write-session c = put-inside (c .before .before .refused-text .ensures)
+slice-reshare-prefix-write-session c =
+    let h = put-inside (c .before .before .refused-text .ensures) in
+    search needs
 
 slice-aggregate-write-session : tie.Need-slice-aggregate-write-session
 slice-aggregate-write-session c = sym (length-take-le _ _ (slice-reshare-prefix-write-session (c .before)))

@@ -1,13 +1,12 @@
 -- `lines::ascii::put_natural` meets its contract. Assumes nothing.
 use borrow.Author.Needs.{needs}
-use mathlib.Core.Path.{_≡_, refl, sym, ap, subst, _∙_}
-use mathlib.Core.List.{List, [], _∷_, _++_}
+use mathlib.Core.Path.{_≡_, refl, sym, ap, _∙_}
+use mathlib.Core.List.{List}
 use Prim.Native.Nat.{ℕ, _+_, _/_, _%_, _-_, _<_, _≤_}
 use native.Mathlib.Omega.{arith}
 use lib.ListN.{length, set, length-set}
 use Rattle.writer.specs.Bytes.{pasted}
 use Rattle.lines.specs.Decimal.{digitsOf}
-use Rattle.lines.specs.Put.{Put}
 use Rattle.lines.proofs.Digits.{some, length-more, one-digit, more-digits}
 use Rattle.lines.proofs.Puts.{put-one, pasted-before}
 use Rattle.lines.proofs.ascii.put_natural.Statement.{statement}
