@@ -2,12 +2,11 @@
 use mathlib.Core.Path.{_≡_, refl, sym, ap, ap₂, _∙_}
 use mathlib.Core.List.{List, [], _∷_, _++_}
 use Prim.Native.Nat.{ℕ, suc, _+_, _≤_, _<_}
-use native.Mathlib.Numerals.{add-one}
 use native.Mathlib.Omega.{arith}
-use lib.ListN.{length, getD, set, take, drop, length-append}
-use lib.Seq.{take-suc, length-take-le, set-split, take-set-le, drop-at, append-snoc, take-append-seam}
+use lib.ListN.{length, set, take, drop, length-append}
+use lib.Seq.{length-take-le, set-split, take-set-le, drop-at, append-snoc, take-append-seam}
 use Rattle.writer.specs.Bytes.{pasted}
-use Rattle.writer.proofs.Paste.{pasted-none, pasted-next, pasted-long}
+use Rattle.writer.proofs.Paste.{pasted-none, pasted-next, pasted-long, byte-one}
 use Rattle.lines.specs.Put.{Put}
 
 module _ {d e bs : List ℕ} {at a : ℕ} (p : Put d at bs e a) (h : a ≤ length d) where
@@ -40,8 +39,7 @@ put-none d at = record { bytes = sym (pasted-none d at); place = omega arith }
 
 -- one byte
 pub put-one : (d : List ℕ) (at b : ℕ) → at < length d → Put d at (b ∷ []) (set d at b) (at + 1)
-unfolding pasted
-put-one d at b h = record { bytes = rw (add-one at) (set-split d at b h); place = refl }
+put-one d at b h = record { bytes = byte-one d at b h; place = refl }
 
 -- a byte that stands behind others, put before they are
 pub pasted-before : (d : List ℕ) (at : ℕ) (bs : List ℕ) (b : ℕ) → at + length bs < length d
@@ -53,13 +51,3 @@ pasted-before d at bs b h =
     let e : drop p (set d p b) ≡ b ∷ drop (suc p) d = ap (drop p) (set-split d p b h) ∙ drop-at (take p d) (b ∷ drop (suc p) d) p (length-take-le p d (omega arith)) in
     ap₂ (λ (x y : List ℕ). x ++ (bs ++ y)) (take-set-le at d p b (omega arith)) e
     ∙ ap (λ (x : List ℕ). take at d ++ x) (sym (append-snoc bs b (drop (suc p) d)) ∙ ap (λ (k : ℕ). (bs ++ (b ∷ [])) ++ drop k d) (sym l))
-
--- one byte more of a word
-pub put-more : (d : List ℕ) (at : ℕ) (s : List ℕ) (j : ℕ) (e : List ℕ) → j < length s → at + length s ≤ length d → Put d at (take j s) e (at + j)
-    → Put d at (take (j + 1) s) (set e (at + j) (getD s j 0)) (at + (j + 1))
-put-more d at s j e h g p =
-    let w : take (j + 1) s ≡ take j s ++ (getD s j 0 ∷ []) = ap (λ (n : ℕ). take n s) (add-one j) ∙ take-suc s j 0 h in
-    let k : at + j ≤ length d = omega arith in
-    let l : length e ≡ length d = put-long p k in
-    let q = put-then p k (put-one e (at + j) (getD s j 0) (omega arith)) in
-    record { bytes = q .bytes ∙ ap (pasted d at) (sym w); place = omega (arith, q .place, ap length w) }

@@ -6,18 +6,15 @@ ghost use lib.ListN.{length};
 ghost use Rattle.lines.specs.Decimal.{digitsOf, decimal};
 ghost use Rattle.lines.specs.Put.{Put};
 use whole::sign::size;
+use writer::bytes::copy;
 
 // The bytes of a word, from at on.
 pub fn put_word(room: &mut [u8], at: usize, word: &[u8]) -> usize
     requires { ⌜ at + length (now word) ≤ length (now room) ⌝ }
     ensures { λ r. ⌜ Put (now (room .entry)) at (now (word .entry)) (now (room .exit)) r ⌝ }
 {
-    let mut j: usize = 0;
-    while j < word.len() {
-        room[at + j] = word[j];
-        j += 1;
-    }
-    at + j
+    copy(room, at, word);
+    at + word.len()
 }
 
 // How many digits n has.

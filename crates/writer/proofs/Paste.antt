@@ -1,12 +1,12 @@
 -- Bytes that are put into a list, one run after the other. Assumes nothing.
 use mathlib.Core.Path.{_≡_, refl, sym, ap, ap₂, _∙_}
 use Prim.Native.Nat.{ℕ, zero, suc, _+_, _-_, _*_, _≤_, _<_}
-use native.Mathlib.Nat.{add-zero, zero-add}
+use native.Mathlib.Nat.{add-zero}
 use native.Mathlib.Numerals.{add-one}
 use native.Mathlib.Omega.{arith}
 use mathlib.Core.List.{List, [], _∷_, _++_, append-assoc, append-nil}
-use lib.ListN.{length, getD, set, take, drop, length-append, length-drop, length-take, take-append-drop}
-use lib.Seq.{drop-cons, set-at, append-snoc, length-take-le, take-at, drop-at, drop-append-add, drop-drop, take-suc, take-length, take-append-add}
+use lib.ListN.{length, getD, set, take, drop, length-append, length-drop, take-append-drop}
+use lib.Seq.{length-take-le, take-at, drop-append-add, drop-drop, take-suc, set-split}
 use Rattle.writer.specs.Bytes.{bytesOf, bytesOfAll}
 use Rattle.writer.specs.Code.{putBits}
 use Rattle.writer.specs.Bytes.{pasted}
@@ -88,14 +88,19 @@ more d d₁ d₂ xs ys n e f g h =
     let m : n ≡ 0 + length (bytesOfAll xs) = omega arith in
     f ∙ ap₂ (λ (x : List ℕ) (k : ℕ). pasted x k (bytesOfAll ys)) e m ∙ pasted-next d 0 (bytesOfAll xs) (omega arith) (bytesOfAll ys) ∙ ap (pasted d 0) (sym (all-append xs ys))
 
--- one byte more
-pub byte-more : (d s : List ℕ) (j : ℕ) → j < length s → length s ≤ length d
-    → set (pasted d 0 (take j s)) j (getD s j 0) ≡ pasted d 0 (take (j + 1) s)
+-- one byte, and one byte more of a list of them
+pub byte-one : (d : List ℕ) (at b : ℕ) → at < length d → set d at b ≡ pasted d at (b ∷ [])
 unfolding pasted
-byte-more d s j h k =
-    let l : length (take j s) ≡ j = length-take-le j s (omega arith) in
-    let l′ : length (take (suc j) s) ≡ suc j = length-take-le (suc j) s h in
-    rw (add-one j, l, l′, zero-add j, zero-add (suc j))
-    (ap (λ (x : List ℕ). set (take j s ++ x) j (getD s j 0)) (drop-cons d j 0 (omega arith))
-    ∙ set-at (take j s) (getD d j 0) (drop (suc j) d) (getD s j 0) j l
-    ∙ sym (ap (λ (x : List ℕ). x ++ drop (suc j) d) (take-suc s j 0 h) ∙ append-snoc (take j s) (getD s j 0) (drop (suc j) d)))
+byte-one d at b h = rw (add-one at) (set-split d at b h)
+
+pub byte-more : (d : List ℕ) (at : ℕ) (s : List ℕ) (j : ℕ) → j < length s → at + length s ≤ length d
+    → set (pasted d at (take j s)) (at + j) (getD s j 0) ≡ pasted d at (take (j + 1) s)
+byte-more d at s j h k =
+    let bs = take j s in
+    let b = getD s j 0 in
+    let l : length bs ≡ j = length-take-le j s (omega arith) in
+    let w : take (j + 1) s ≡ bs ++ (b ∷ []) = ap (λ (n : ℕ). take n s) (add-one j) ∙ take-suc s j 0 h in
+    byte-one (pasted d at bs) (at + j) b (omega (arith, pasted-long d at bs (omega (arith, l))))
+    ∙ ap (λ (n : ℕ). pasted (pasted d at bs) (at + n) (b ∷ [])) (sym l)
+    ∙ pasted-next d at bs (omega (arith, l)) (b ∷ [])
+    ∙ ap (pasted d at) (sym w)

@@ -68,14 +68,14 @@ pub fn put_numbers(d: &mut [u8], at: usize, zs: &[i64])
     }
 }
 
-// The bytes of s at the start of d.
-pub fn copy(d: &mut [u8], s: &[u8])
-    requires { ⌜ length (now s) ≤ length (now d) ⌝ }
-    ensures { λ _. ⌜ now (d .exit) ≡ pasted (now (d .entry)) 0 (now (s .entry)) ⌝ }
+// The bytes of s, from at on.
+pub fn copy(d: &mut [u8], at: usize, s: &[u8])
+    requires { ⌜ at + length (now s) ≤ length (now d) ⌝ }
+    ensures { λ _. ⌜ now (d .exit) ≡ pasted (now (d .entry)) at (now (s .entry)) ⌝ }
 {
     let mut j: usize = 0;
     while j < s.len() {
-        d[j] = s[j];
+        d[at + j] = s[j];
         j += 1;
     }
 }

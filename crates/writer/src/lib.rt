@@ -96,7 +96,7 @@ pub fn write_as(
         return answer(or_else(refusal, 7), n);
     }
     if refusal == 0 {
-        copy(room, part);
+        copy(room, 0, part);
     }
     answer(refusal, n)
 }

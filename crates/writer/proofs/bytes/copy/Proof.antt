@@ -11,16 +11,19 @@ use Rattle.writer.proofs.bytes.copy.Statement.{statement}
 use Rattle.writer.proofs.bytes.copy.Tie as tie
 
 abbrev Inv-loop : tie.InvT-loop
-Inv-loop d₀ s j₀ d j = (j ≤ length s) × (d ≡ pasted d₀ 0 (take j s)) × (length d ≡ length d₀)
+Inv-loop d₀ at s j₀ d j = (j ≤ length s) × (d ≡ pasted d₀ at (take j s)) × (length d ≡ length d₀)
 
 abbrev μ-loop : tie.MeasureT-loop
-μ-loop d₀ s j₀ d j = length s - j
+μ-loop d₀ at s j₀ d j = length s - j
 
 loop-holds : tie.Need-loop-holds Inv-loop μ-loop
 loop-holds c = (search needs, sym (pasted-none _ _), refl)
 
 shared-slice-read-d : tie.Need-shared-slice-read-d Inv-loop μ-loop
 shared-slice-read-d c = search needs
+
+add-d : tie.Need-add-d Inv-loop μ-loop
+add-d c = search needs
 
 slice-write-d : tie.Need-slice-write-d Inv-loop μ-loop
 slice-write-d c = search needs
@@ -35,8 +38,9 @@ loop-again : tie.Need-loop-again Inv-loop μ-loop
 loop-again c =
     let st = c .before .before .before in
     let j = c .before .before .loop .j in
+    let at = st .args .at in
     let s = st .args .s .now in
-    (search needs, ap (λ (d : List ℕ). set d j (getD s j 0)) (c .before .before .loop .inv .1) ∙ byte-more (st .args .d .now) s j (c .before .loop-test .taken) (st .pre), simp length-set (c .before .before .loop .inv .2))
+    (search needs, ap (λ (d : List ℕ). set d (at + j) (getD s j 0)) (c .before .before .loop .inv .1) ∙ byte-more (st .args .d .now) at s j (c .before .loop-test .taken) (st .pre), simp length-set (c .before .before .loop .inv .2))
 
 same-length : tie.Need-same-length Inv-loop μ-loop
 same-length c = search needs
@@ -55,6 +59,7 @@ copy-spec =
     μ-loop
     loop-holds
     shared-slice-read-d
+    add-d
     slice-write-d
     add-j
     loop-less
