@@ -1,11 +1,10 @@
 -- What is proved of the outcomes of the calls `orientation`, `delay` and `samples`. Assumes nothing.
 use mathlib.Core.Path.{_≡_, refl, sym, ap, _∙_}
-use mathlib.Core.Bool.{Bool, true, false, _&&_, cond}
+use mathlib.Core.Bool.{Bool, true, false, _&&_}
 use mathlib.Core.List.{List, [], _∷_}
 use Prim.Native.Nat.{ℕ, zero, suc, _≤_, _<_}
 use native.Mathlib.Omega.{arith}
-use lib.Dec.{eqb, leb, ltb}
-use borrow.Author.Tests.{ne-eqb}
+use lib.Dec.{leb, ltb, eqb·suc-zero}
 use lib.ListN.{length, getD, drop}
 use lib.IntN.{ℤ, pos, negℤ}
 use Rattle.whole.specs.Whole.{∣_∣}
@@ -22,7 +21,8 @@ use Rattle.session.specs.Records.{stationBy, sourceBy, passOf}
 use Rattle.wave.proofs.Sizes.{between-size}
 use Rattle.wave.proofs.Swapped.{between-neg, between-same}
 use Rattle.delay.specs.declared.EarthAnswer.{EarthAnswer}
-use Rattle.delay.specs.Calls.{lowest, unless, idOk, hasId, allThere, number, noNumber, delayIn, delayNumber, delayOutcome, orientationOutcome, samplesOf, allCovered, sampleIn, samplesNumber, samplesOutcome, samplesRoom}
+use Rattle.whole.specs.Answers.{answerBy}
+use Rattle.delay.specs.Calls.{lowest, unless, idOk, hasId, allThere, delayIn, delayNumber, delayOutcome, orientationOutcome, samplesOf, allCovered, sampleIn, samplesNumber, samplesOutcome, samplesRoom}
 use Rattle.delay.specs.Sessions.{covers, earthIn, sampleEpoch}
 use Rattle.delay.proofs.Accepted.{names-in}
 use Rattle.delay.proofs.Covered.{earth-in-size}
@@ -58,26 +58,28 @@ pub delay-in-swap : (s : List ℕ) (a b r : ℤ) (e : Epoch) → delayIn s b a r
 unfolding delayIn
 delay-in-swap s a b r e = between-neg (stationBy s a) (stationBy s b) (sourceBy s r) (earthIn s e)
 
-answer-swap : (t : Bool) (n : ℕ) (v w : ℤ) → w ≡ negℤ v → (cond t (number w) (noNumber n) .refusal ≡ cond t (number v) (noNumber n) .refusal) × (cond t (number w) (noNumber n) .value ≡ negℤ (cond t (number v) (noNumber n) .value))
-answer-swap true n v w e = (refl, e)
-answer-swap false n v w e = (refl, refl)
+answer-swap : (n : ℕ) (v w : ℤ) → w ≡ negℤ v → (answerBy n w .refusal ≡ answerBy n v .refusal) × (answerBy n w .value ≡ negℤ (answerBy n v .value))
+unfolding answerBy
+answer-swap zero v w e = (refl, e)
+answer-swap (suc n) v w e = rw (eqb·suc-zero n) (refl, refl)
 
 -- the same number, and the value negated
 pub delay-swap : (s : List ℕ) (a b r day ms : ℤ) → (delayOutcome s b a r day ms .refusal ≡ delayOutcome s a b r day ms .refusal) × (delayOutcome s b a r day ms .value ≡ negℤ (delayOutcome s a b r day ms .value))
 unfolding delayOutcome
 delay-swap s a b r day ms =
     rw (delay-number-swap s a b r day ms)
-    (answer-swap (eqb (delayNumber s a b r day ms) 0) (delayNumber s a b r day ms) (delayIn s a b r (epochOf day ms)) (delayIn s b a r (epochOf day ms)) (delay-in-swap s a b r (epochOf day ms)))
+    (answer-swap (delayNumber s a b r day ms) (delayIn s a b r (epochOf day ms)) (delayIn s b a r (epochOf day ms)) (delay-in-swap s a b r (epochOf day ms)))
 
 -- one station twice gives 0
-answer-zero : (t : Bool) (n : ℕ) (v : ℤ) → v ≡ pos 0 → cond t (number v) (noNumber n) .value ≡ pos 0
-answer-zero true n v e = e
-answer-zero false n v e = refl
+answer-zero : (n : ℕ) (v : ℤ) → v ≡ pos 0 → answerBy n v .value ≡ pos 0
+unfolding answerBy
+answer-zero zero v e = e
+answer-zero (suc n) v e = rw (eqb·suc-zero n) refl
 
 pub delay-same : (s : List ℕ) (a r day ms : ℤ) → delayOutcome s a a r day ms .value ≡ pos 0
 unfolding delayOutcome delayIn
 delay-same s a r day ms =
-    answer-zero (eqb (delayNumber s a a r day ms) 0) (delayNumber s a a r day ms) (delayIn s a a r (epochOf day ms)) (between-same (stationBy s a) (sourceBy s r) (earthIn s (epochOf day ms)))
+    answer-zero (delayNumber s a a r day ms) (delayIn s a a r (epochOf day ms)) (between-same (stationBy s a) (sourceBy s r) (earthIn s (epochOf day ms)))
 
 -- the same of a pass: with its stations exchanged each sample is negated
 abbrev pub exchanged : Pass → Pass
@@ -118,9 +120,10 @@ delay-clear s a b r day ms e =
     let l = lower-zero (unless (covers s day) 6) 0 (k .1) in
     (f .0, unless-zero (allThere s a b r) 4 (k .0), unless-zero (covers s day) 5 (l .0), asked-in (idOk a) (idOk b) (idOk r) day ms (unless-zero o 1 (g .0)) .1)
 
-answer-size : (n : ℕ) (v : ℤ) (k : ℕ) → (n ≡ 0 → ∣ v ∣ ≤ k) → ∣ cond (eqb n 0) (number v) (noNumber n) .value ∣ ≤ k
+answer-size : (n : ℕ) (v : ℤ) (k : ℕ) → (n ≡ 0 → ∣ v ∣ ≤ k) → ∣ answerBy n v .value ∣ ≤ k
+unfolding answerBy
 answer-size zero v k h = h refl
-answer-size (suc n) v k h = rw (ne-eqb (suc n) 0 (λ e. omega arith)) (omega arith)
+answer-size (suc n) v k h = rw (eqb·suc-zero n) (omega arith)
 
 pub delay-bounded : (s : List ℕ) (a b r day ms : ℤ) → ∣ delayOutcome s a b r day ms .value ∣ ≤ 130000000000
 unfolding delayOutcome

@@ -8,6 +8,8 @@ use lib.Dec.{leb, ltb, eqb}
 use lib.Signed.{leZ}
 use Rattle.earth.specs.declared.time.Epoch.{Epoch}
 use Rattle.whole.specs.declared.Number.{Number}
+use Rattle.whole.specs.Answers.{answerBy}
+use Rattle.whole.specs.Values.{firstValues}
 use Rattle.earth.specs.Ranges.{dayOk, msOk}
 use Rattle.earth.specs.Calls.{epochOf}
 use Rattle.session.specs.declared.Pass.{Pass}
@@ -76,16 +78,8 @@ delayNumber s a b r day ms =
 unfoldable pub delayIn : List ℕ → ℤ → ℤ → ℤ → Epoch → ℤ
 delayIn s a b r e = delayBetween (stationBy s a) (stationBy s b) (sourceBy s r) (earthIn s e)
 
-abbrev pub number : ℤ → Number
-number v = record { refusal = pos 0; value = v }
-
-abbrev pub noNumber : ℕ → Number
-noNumber n = record { refusal = pos n; value = pos 0 }
-
 unfoldable pub delayOutcome : List ℕ → ℤ → ℤ → ℤ → ℤ → ℤ → Number
-delayOutcome s a b r day ms =
-    let n = delayNumber s a b r day ms in
-    cond (eqb n 0) (number (delayIn s a b r (epochOf day ms))) (noNumber n)
+delayOutcome s a b r day ms = answerBy (delayNumber s a b r day ms) (delayIn s a b r (epochOf day ms))
 
 -- ---- samples(file, pass, room)
 
@@ -112,15 +106,8 @@ samplesNumber s i room =
 unfoldable pub sampleIn : List ℕ → Pass → ℕ → ℤ
 sampleIn s p j = delayIn s (p .station1) (p .station2) (p .source) (sampleEpoch p j)
 
--- the first n values of f
-abbrev pub firstValues : ℕ → (ℕ → ℤ) → List ℤ
-firstValues zero f = []
-firstValues (suc n) f = firstValues n f ++ (f n ∷ [])
-
 unfoldable pub samplesOutcome : List ℕ → ℕ → ℕ → Number
-samplesOutcome s i room =
-    let n = samplesNumber s i room in
-    cond (eqb n 0) (number (passOf s i .samples)) (noNumber n)
+samplesOutcome s i room = answerBy (samplesNumber s i room) (passOf s i .samples)
 
 -- the room after the call: the samples from its start, and the rest as it was; refused, all as it was
 unfoldable pub samplesRoom : List ℕ → ℕ → List ℤ → List ℤ

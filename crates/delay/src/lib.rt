@@ -21,8 +21,9 @@ ghost use mathlib.Core.Path.{_≡_};
 ghost use mathlib.Core.Bool.{_&&_};
 ghost use Prim.Native.Nat.{_≤_, _<_};
 ghost use lib.ListN.{length};
+ghost use Rattle.whole.specs.Answers.{noNumber};
 ghost use Rattle.earth.specs.Ranges.{dayOk, msOk};
-ghost use Rattle.delay.specs.Calls.{lowerOf, unless, idOk, noEarth, noNumber, orientationOutcome, delayOutcome, samplesOutcome, samplesRoom};
+ghost use Rattle.delay.specs.Calls.{lowerOf, unless, idOk, noEarth, orientationOutcome, delayOutcome, samplesOutcome, samplesRoom};
 
 // As used at an epoch: the pole, UT1-UTC with the tide, and ERA.
 #[repr(C)]

@@ -13,7 +13,8 @@ ghost use lib.ListN.{length, drop};
 ghost use Rattle.sections.specs.File.{refusalOf};
 ghost use Rattle.wave.specs.Bounds.{InSight};
 ghost use Rattle.delay.specs.Bounds.{InPass};
-ghost use Rattle.delay.specs.Calls.{allCovered, samplesOf, firstValues};
+ghost use Rattle.whole.specs.Values.{firstValues};
+ghost use Rattle.delay.specs.Calls.{allCovered, samplesOf};
 ghost use Rattle.delay.specs.Keeping.{delayAt};
 ghost use Rattle.delay.specs.Sessions.{covers, sampleEpoch};
 

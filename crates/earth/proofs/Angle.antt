@@ -10,7 +10,8 @@ use Rattle.whole.proofs.Rounding.{floor-mod, mod-below}
 use Rattle.whole.specs.Ranges.{In}
 use Rattle.earth.specs.Ranges.{InDay, InF}
 use Rattle.earth.specs.Angle.{fmOf, sumOf, eOf, eraOf, turn, exactOf, Near}
-use Rattle.earth.proofs.Floors.{floor-more, mod-more, abs-within}
+use Rattle.whole.proofs.Linear.{size-to}
+use Rattle.earth.proofs.Floors.{floor-more, mod-more}
 
 pub e-below : (d f : ℤ) → eOf d f < 10 ^ 17
 unfolding eOf
@@ -43,7 +44,7 @@ off d f F m G q a b c e h1 h2 h3 h4 =
 small : (f : ℤ) (a b c : ℕ) → InF f → a < 27 → b < 1000 → c < 432
     → ∣ negℤ (pos 135448 *ℤ f +ℤ pos (32000000000 * a + 273781191000000 * b + 200000000 * c)) ∣ ≤ 345600000000000000
 small f a b c i ha hb hc =
-    abs-within (negℤ (pos 135448 *ℤ f +ℤ pos (32000000000 * a + 273781191000000 * b + 200000000 * c)))
+    size-to (negℤ (pos 135448 *ℤ f +ℤ pos (32000000000 * a + 273781191000000 * b + 200000000 * c)))
     (135448 * N f)
     (135448 * P f + (32000000000 * a + 273781191000000 * b + 200000000 * c))
     345600000000000000

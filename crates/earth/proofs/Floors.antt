@@ -68,8 +68,3 @@ in-abs (negsuc n) i = omega (arith, i .n-lo)
 
 abbrev pub leaf : {lo hi : ℤ} (z : ℤ) → In lo hi z → M
 leaf {lo} {hi} z i = var z (N lo + P hi) (in-abs z i)
-
--- |x| from both sides, where x is u less d
-pub abs-within : (x : ℤ) (u d k : ℕ) → P x + d ≡ N x + u → u ≤ d + k → d ≤ u + k → ∣ x ∣ ≤ k
-abs-within (pos n) u d k e h l = omega arith
-abs-within (negsuc n) u d k e h l = omega arith

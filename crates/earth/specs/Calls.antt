@@ -7,6 +7,7 @@ use Rattle.earth.specs.declared.ticks.Delaunay.{Delaunay}
 use Rattle.earth.specs.declared.EpochAnswer.{EpochAnswer}
 use Rattle.earth.specs.declared.TicksAnswer.{TicksAnswer}
 use Rattle.whole.specs.declared.Number.{Number}
+use Rattle.whole.specs.Answers.{number, noNumber}
 use Rattle.earth.specs.declared.AngleAnswer.{AngleAnswer}
 use Rattle.earth.specs.Ranges.{dayOk, msOk, taiOk, addOk, fOk}
 use Rattle.earth.specs.Epoch.{laterOf}
@@ -25,8 +26,8 @@ ticksOr2 true n a = record { refusal = pos 0; n = n; l = a .l; lp = a .lp; f = a
 ticksOr2 false n a = record { refusal = pos 2; n = pos 0; l = 0; lp = 0; f = 0; d = 0; om = 0 }
 
 abbrev pub numberOr2 : Bool → ℤ → Number
-numberOr2 true v = record { refusal = pos 0; value = v }
-numberOr2 false v = record { refusal = pos 2; value = pos 0 }
+numberOr2 true v = number v
+numberOr2 false v = noNumber 2
 
 abbrev pub angleOr2 : Bool → ℕ → ℕ → AngleAnswer
 angleOr2 true e tick = record { refusal = pos 0; e = pos e; tick = tick }

@@ -13,6 +13,7 @@ use mir.Val.{SFits, toZ, ofZ}
 use mir.ValLaws.{toZ-ofZ, toZ-pos}
 use Rattle.whole.specs.Whole.{∣_∣}
 use Rattle.whole.proofs.Linear.{back, abs-fits}
+use Rattle.whole.proofs.Tests.{is-true}
 use Rattle.fit.specs.Rates.{scaled, fitOf, tilt, rowLo, lo, hi, fit, off}
 use Rattle.fit.specs.Greedy.{grow}
 use Rattle.fit.proofs.Diff.{sub-ind, sub-pos, sub-sub, sub-eq}
@@ -23,19 +24,15 @@ small-back z h = back (abs-fits (omega arith))
 pub small-bits : (z : ℤ) → ∣ z ∣ ≤ 130_000_000_000 → ∣ toZ w64 (ofZ w64 z) ∣ ≤ 130_000_000_000
 small-bits z h = subst (λ (y : ℤ). ∣ y ∣ ≤ 130_000_000_000) (sym (small-back z h)) h
 
--- a run of c samples grown, as the code grows it, to at most m
-true-of : (b : Bool) → T b → b ≡ true
-true-of true h = refl
-true-of false h = absurd h
-
 false-of : (b : Bool) → T (not b) → b ≡ false
 false-of true h = absurd h
 false-of false h = refl
 
+-- a run of c samples grown, as the code grows it, to at most m
 module _ (test : ℕ → ℕ → Bool) (f m c : ℕ) where
   pub grow-yes : c < m → T (test f (c + 1)) → grow test (m - (c + 1)) f (c + 1) ≡ grow test (m - c) f c
   unfolding grow
-  grow-yes h t = sym (rw (e, true-of (test f (suc c)) (rw add-one at t), add-one))
+  grow-yes h t = sym (rw (e, is-true (test f (suc c)) (rw add-one at t), add-one))
     where
       e : m - c ≡ suc (m - (c + 1))
       e = omega arith

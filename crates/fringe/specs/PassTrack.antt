@@ -5,7 +5,8 @@ use mathlib.Core.List.{List}
 use lib.Dec.{eqb}
 use lib.IntN.{ℤ}
 use Rattle.session.specs.Records.{passOf, passAt}
-use Rattle.delay.specs.Calls.{samplesOf, sampleIn, firstValues, samplesNumber}
+use Rattle.whole.specs.Values.{firstValues}
+use Rattle.delay.specs.Calls.{samplesOf, sampleIn, samplesNumber}
 use Rattle.track.specs.Answer.{Outcome, outcome, refused}
 
 -- the samples of pass i

@@ -10,7 +10,8 @@ use Rattle.whole.specs.Whole.{P, ∣_∣}
 use Rattle.fit.proofs.Tests.{lt-or}
 use Rattle.whole.specs.declared.Number.{Number}
 use Rattle.predict.specs.declared.Host.{Host}
-use Rattle.predict.specs.Lent.{Lent, lentOf, soundFrom, covers, coveredBy, predicted, answerAt, refused, predictOutcome}
+use Rattle.whole.specs.Answers.{noNumber}
+use Rattle.predict.specs.Lent.{Lent, lentOf, soundFrom, covers, coveredBy, predicted, answerAt, predictOutcome}
 use Rattle.predict.specs.Host.{hostOutcome}
 use Rattle.predict.proofs.Numbers.{good, sound-head, covered, passed}
 
@@ -36,7 +37,7 @@ pub value-size : (s : List ℤ) (k : ℕ) → ∣ predictOutcome s k .value ∣ 
 unfolding predictOutcome
 value-size s k = go (soundFrom 0 (lentOf s)) refl
   where
-    go : (b : Bool) → b ≡ soundFrom 0 (lentOf s) → ∣ cond b (answerAt (lentOf s) k) refused .value ∣ ≤ 131_000_000_000
+    go : (b : Bool) → b ≡ soundFrom 0 (lentOf s) → ∣ cond b (answerAt (lentOf s) k) (noNumber 9) .value ∣ ≤ 131_000_000_000
     go true e = answer-size (lentOf s) 0 k (omega arith) (sym e)
     go false e = omega arith
 
@@ -58,7 +59,7 @@ pub the-number : (s : List ℤ) (k : ℕ) → predictOutcome s k .refusal ≡ nu
 unfolding predictOutcome
 the-number s k = go (soundFrom 0 (lentOf s))
   where
-    go : (b : Bool) → cond b (answerAt (lentOf s) k) refused .refusal ≡ numberFor (b && coveredBy (lentOf s) k)
+    go : (b : Bool) → cond b (answerAt (lentOf s) k) (noNumber 9) .refusal ≡ numberFor (b && coveredBy (lentOf s) k)
     go true = answer-number (lentOf s) k
     go false = refl
 

@@ -6,9 +6,8 @@ use native.Mathlib.Omega.{arith}
 use lib.IntN.{ℤ, pos, _+ℤ_, _-ℤ_, +ℤ-idr}
 use lib.Signed.{leZ, _≤ℤ_}
 use Rattle.whole.specs.Whole.{P, N, ∣_∣}
-use Rattle.whole.proofs.Linear.{leZ-true, leZ-false, le⇒}
+use Rattle.whole.proofs.Linear.{leZ-true, leZ-false, le⇒, size-to}
 use Rattle.whole.proofs.Quote.{⟨_⟩, #, _⊝_, bal}
-use Rattle.predict.proofs.Reach.{size-to}
 
 pub yes-and : (a b : Bool) → a ≡ true → (a && b) ≡ b
 yes-and a b h = cc

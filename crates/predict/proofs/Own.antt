@@ -11,7 +11,7 @@ use lib.ListN.{length}
 use lib.IntN.{ℤ, pos, _+ℤ_, _-ℤ_, _*ℤ_}
 use lib.Signed.{_≤ℤ_}
 use Rattle.whole.specs.Whole.{P, N, ∣_∣, R}
-use Rattle.whole.proofs.Linear.{le⇒, abs-sub}
+use Rattle.whole.proofs.Linear.{le⇒, abs-sub, size-to, size-from}
 use Rattle.whole.proofs.Quote.{⟨_⟩, #, _⊕_, _⊝_, _⊗_, bal, by≡, by≤}
 use Rattle.whole.proofs.Rounding.{R-mono, R-mul}
 use Rattle.fit.specs.Line.{sample, Fits, Small}
@@ -26,7 +26,7 @@ use Rattle.track.proofs.Ranged.{ranged}
 use Rattle.track.proofs.Theorems.{trackOf-ruled}
 use Rattle.predict.specs.Lent.{Lent, lentOf, predicted, placeOk, lengthOk, rangeOk, predictionsOk, segmentOk, soundFrom, answerAt, predictOutcome}
 use Rattle.predict.specs.Ends.{reach}
-use Rattle.predict.proofs.Reach.{size-to, size-from, round-reach}
+use Rattle.predict.proofs.Reach.{round-reach}
 use Rattle.predict.proofs.Numbers.{Good, good, covered, passed}
 
 -- a number z that is within 65,536·t of 65,536·v

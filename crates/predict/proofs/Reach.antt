@@ -10,22 +10,13 @@ use lib.Dec.{leb}
 use lib.IntN.{ℤ, pos, negsuc, _+ℤ_, _-ℤ_, _*ℤ_, *ℤ-zero, +ℤ-idr}
 use lib.Signed.{leZ}
 use Rattle.whole.specs.Whole.{P, N, ∣_∣, R, near}
-use Rattle.whole.proofs.Linear.{P-neg, N-neg, no-ft}
+use Rattle.whole.proofs.Linear.{P-neg, N-neg, no-ft, size-to, size-from}
 use Rattle.whole.proofs.Quote.{⟨_⟩, #, _⊕_, _⊝_, _⊗_, bal, by≡}
 use Rattle.fit.proofs.Tests.{lt-or}
 use Rattle.whole.specs.Each.{allBelow}
 use Rattle.whole.proofs.Each.{below-all, below-fails}
 use Rattle.predict.specs.Lent.{Lent, predicted, lengthOk, predictionsOk}
 use Rattle.predict.specs.Ends.{reach, endsOk}
-
--- a number that is u less d is at most k in size exactly if neither is more than k above the other
-pub size-to : (x : ℤ) (u d k : ℕ) → P x + d ≡ N x + u → u ≤ d + k → d ≤ u + k → ∣ x ∣ ≤ k
-size-to (pos n) u d k e h l = omega arith
-size-to (negsuc n) u d k e h l = omega arith
-
-pub size-from : (x : ℤ) (u d k : ℕ) → P x + d ≡ N x + u → ∣ x ∣ ≤ k → (u ≤ d + k) × (d ≤ u + k)
-size-from (pos n) u d k e h = (omega arith, omega arith)
-size-from (negsuc n) u d k e h = (omega arith, omega arith)
 
 -- what is between two ends of a line
 pub between-ends : (A r : ℤ) (k m j : ℕ) → ∣ A ∣ ≤ k → ∣ A +ℤ r *ℤ pos m ∣ ≤ k → j ≤ m → ∣ A +ℤ r *ℤ pos j ∣ ≤ k

@@ -9,6 +9,7 @@ use lib.Signed.{leZ, ltZ}
 use Rattle.whole.specs.Whole.{P, ∣_∣, R}
 use Rattle.whole.specs.Each.{allBelow}
 use Rattle.whole.specs.declared.Number.{Number}
+use Rattle.whole.specs.Answers.{number, noNumber}
 
 -- a segment's four numbers, as they are lent
 pub record Lent : Type 0 where
@@ -57,10 +58,6 @@ soundFrom at (x ∷ xs) = segmentOk at x && soundFrom (at + P (x .count)) xs
 
 -- ---- the answers
 
--- "A refused call returns its number and zeros"
-abbrev pub refused : Number
-refused = record { refusal = pos 9; value = pos 0 }
-
 -- the segment covers sample k
 abbrev pub covers : Lent → ℕ → Bool
 covers x k = leZ (x .first) (pos k) && ltZ (pos k) (x .first +ℤ x .count)
@@ -72,9 +69,9 @@ coveredBy (x ∷ xs) k = let r = coveredBy xs k in cond (covers x k) true r
 
 -- the prediction of the segment that covers sample k; "sample not covered" is 9
 unfoldable pub answerAt : List Lent → ℕ → Number
-answerAt [] k = refused
-answerAt (x ∷ xs) k = let r = answerAt xs k in cond (covers x k) (record { refusal = pos 0; value = predicted x (pos k -ℤ x .first) }) r
+answerAt [] k = noNumber 9
+answerAt (x ∷ xs) k = let r = answerAt xs k in cond (covers x k) (number (predicted x (pos k -ℤ x .first))) r
 
 -- what the call `predict` answers: every whole segment is judged, also those after the one that covers sample k
 unfoldable pub predictOutcome : List ℤ → ℕ → Number
-predictOutcome numbers k = cond (soundFrom 0 (lentOf numbers)) (answerAt (lentOf numbers) k) refused
+predictOutcome numbers k = cond (soundFrom 0 (lentOf numbers)) (answerAt (lentOf numbers) k) (noNumber 9)

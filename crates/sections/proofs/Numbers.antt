@@ -12,12 +12,7 @@ use mir.Val.{SFits}
 use Rattle.whole.specs.Whole.{P, N, ∣_∣}
 use Rattle.whole.proofs.Linear.{zarith, add-law, sub-lawℤ, leZ-true, leZ-false, ltZ-true, ltZ-false, ⇒leZ, ⇒ltZ, ⇒eq, fits-P, fits-N, ⇒sfits, and-true, no-ft}
 use Rattle.sections.specs.File.{eqZ, steps}
-use Rattle.whole.proofs.Tests.{and-yes, same-test}
-
--- a test that holds, as an equation, and back
-pub is-true : (b : Bool) → T b → b ≡ true
-is-true true h = refl
-is-true false h = absurd h
+use Rattle.whole.proofs.Tests.{is-true, and-yes, same-test}
 
 pub le-yes : (a b : ℤ) → P a + N b ≤ P b + N a → leZ a b ≡ true
 le-yes a b h = is-true (leZ a b) (⇒leZ a b h)

@@ -6,8 +6,9 @@ use Prim.Native.Nat.{ℕ, suc, _+_, _*_, _-_, _/_, _^_, _≤_, _<_, min}
 use native.Mathlib.Omega.{arith}
 use native.Mathlib.Nat.{mul-le-mul, mul-le-mul-left, mul-le-mul-right, pow-le-pow-left, le-trans}
 use lib.Dec.{T, leb, lit≤, lit<}
-use lib.IntN.{ℤ, pos, negsuc, negℤ, _+ℤ_, _-ℤ_, _*ℤ_}
-use Rattle.whole.specs.Whole.{P, N, ∣_∣, signOf}
+use lib.IntN.{ℤ, pos, negℤ, _+ℤ_, _-ℤ_, _*ℤ_}
+use Rattle.whole.specs.Whole.{∣_∣, signOf}
+use Rattle.whole.proofs.Linear.{size-to}
 use Rattle.whole.proofs.Quote.{#, _⊕_, _⊝_, _⊗_, ⊖, bal}
 use Rattle.sine.specs.Sine.{yOf, zOf, sBy, firstDivisor, divisors, S}
 use Rattle.sine.specs.Taylor.{argTop, argUnder, odd?, taylor, Within, farthest, NearTaylor}
@@ -40,10 +41,6 @@ pub record Plan (ks : List ℕ) (n e κ : ℕ) : Type 0 where
   pub room : κ ≤ 1000 * e
   pub one : 1000000 * pup (squares c (hpoly vv ks) (hpoly vv cs)) (most * most) ≤ c * ((1000 * (2 ^ 30 + e) - κ) * scale ks * ((1000 * (2 ^ 30 + e) - κ) * scale ks))
 
-abs-within : (x : ℤ) (u d k : ℕ) → P x + d ≡ N x + u → u ≤ d + k → d ≤ u + k → ∣ x ∣ ≤ k
-abs-within (pos n) u d k e h l = omega arith
-abs-within (negsuc n) u d k e h l = omega arith
-
 -- one term more, of either sign, in the sum than in the scheme
 one-more : (t : Bool) (s g x k c e κ : ℕ)
     → 5000 * (s * g) + 5 * κ * g ≤ 5000 * x + 5000 * e * g
@@ -51,7 +48,7 @@ one-more : (t : Bool) (s g x k c e κ : ℕ)
     → 1000 * c ≤ κ * (g * k)
     → ∣ pos (s * (2 ^ 30 * g * k)) -ℤ pos (2 ^ 30) *ℤ (pos x *ℤ pos k +ℤ signOf t c) ∣ ≤ e * (2 ^ 30 * g * k)
 one-more true s g x k c e κ hi lo l =
-    abs-within (pos (s * (2 ^ 30 * g * k)) -ℤ pos (2 ^ 30) *ℤ (pos x *ℤ pos k +ℤ negℤ (pos c)))
+    size-to (pos (s * (2 ^ 30 * g * k)) -ℤ pos (2 ^ 30) *ℤ (pos x *ℤ pos k +ℤ negℤ (pos c)))
     (s * (2 ^ 30 * g * k) + 2 ^ 30 * c)
     (2 ^ 30 * (x * k))
     (e * (2 ^ 30 * g * k))
@@ -59,7 +56,7 @@ one-more true s g x k c e κ hi lo l =
     (omega (arith, mul-le-mul-right k hi))
     (omega (arith, mul-le-mul-right k lo))
 one-more false s g x k c e κ hi lo l =
-    abs-within (pos (s * (2 ^ 30 * g * k)) -ℤ pos (2 ^ 30) *ℤ (pos x *ℤ pos k +ℤ pos c))
+    size-to (pos (s * (2 ^ 30 * g * k)) -ℤ pos (2 ^ 30) *ℤ (pos x *ℤ pos k +ℤ pos c))
     (s * (2 ^ 30 * g * k))
     (2 ^ 30 * (x * k) + 2 ^ 30 * c)
     (e * (2 ^ 30 * g * k))

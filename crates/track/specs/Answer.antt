@@ -10,6 +10,7 @@ use Rattle.whole.specs.Whole.{P, ∣_∣}
 use Rattle.whole.specs.Each.{allBelow}
 use Rattle.fit.specs.Line.{sample}
 use Rattle.whole.specs.declared.Number.{Number}
+use Rattle.whole.specs.Answers.{number, noNumber}
 use Rattle.track.specs.Segments.{Segment, flat}
 use Rattle.track.specs.Made.{trackOf}
 
@@ -27,11 +28,11 @@ pub record Outcome : Type 0 where
 
 -- "A refused call returns its number and zeros, and every lent byte and number stays."
 abbrev pub refused : ℕ → List ℤ → Outcome
-refused n room = record { answer = record { refusal = pos n; value = pos 0 }; room = room }
+refused n room = record { answer = noNumber n; room = room }
 
 -- "written from the start of the lent room, the rest is untouched"
 abbrev pub written : List Segment → List ℤ → Outcome
-written xs room = record { answer = record { refusal = pos 0; value = pos (length xs) }; room = flat xs ++ drop (4 * length xs) room }
+written xs room = record { answer = number (pos (length xs)); room = flat xs ++ drop (4 * length xs) room }
 
 -- "The lowest number that applies is given." "Room is counted in whole segments"; that no other track of the samples fits a room that is too short for this one
 -- is proved in proofs/Answers.antt.

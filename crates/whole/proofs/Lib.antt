@@ -1,3 +1,4 @@
+pub mod Answers
 pub mod Each
 pub mod Far
 pub mod Linear
@@ -7,3 +8,4 @@ pub mod Quote
 pub mod Rounding
 pub mod Shift
 pub mod Tests
+pub mod Values

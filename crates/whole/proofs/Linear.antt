@@ -246,6 +246,15 @@ pub abs-of : (z : ℤ) (k : ℕ) → P z ≤ k → N z ≤ k → ∣ z ∣ ≤ k
 abs-of (pos n) k h l = omega arith
 abs-of (negsuc n) k h l = omega arith
 
+-- a number that is u less d is at most k in size exactly if neither is more than k above the other
+pub size-to : (x : ℤ) (u d k : ℕ) → P x + d ≡ N x + u → u ≤ d + k → d ≤ u + k → ∣ x ∣ ≤ k
+size-to (pos n) u d k e h l = omega arith
+size-to (negsuc n) u d k e h l = omega arith
+
+pub size-from : (x : ℤ) (u d k : ℕ) → P x + d ≡ N x + u → ∣ x ∣ ≤ k → (u ≤ d + k) × (d ≤ u + k)
+size-from (pos n) u d k e h = (omega arith, omega arith)
+size-from (negsuc n) u d k e h = (omega arith, omega arith)
+
 -- `==` on signed numbers compares bits
 pub bits-eq : {x y : ℤ} → SFits w64 x → SFits w64 y → ofZ w64 x ≡ ofZ w64 y → x ≡ y
 bits-eq f g e = sym (back f) ∙ ap (toZ w64) e ∙ back g

@@ -2,7 +2,13 @@
 use mathlib.Core.Path.{_≡_, refl, sym, _∙_}
 use mathlib.Core.Bool.{Bool, true, false, not, _&&_}
 use mathlib.Core.Logic.{_⊎_, inl, inr}
+use lib.Dec.{T}
 use borrow.Author.Tests.{not-true, not-false}
+
+-- a test that holds, as an equation
+pub is-true : (b : Bool) → T b → b ≡ true
+is-true true h = refl
+is-true false h = absurd h
 
 -- `if !f(..)`, taken and left, where f promises its result as a test
 pub failed : {r s : Bool} → r ≡ s → not r ≡ true → s ≡ false

@@ -1,5 +1,7 @@
-pub mod Each
-pub mod Steps
-pub mod Whole
+pub mod Answers
 pub mod Cases
+pub mod Each
 pub mod Ranges
+pub mod Steps
+pub mod Values
+pub mod Whole

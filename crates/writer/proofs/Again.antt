@@ -23,8 +23,9 @@ use Rattle.writer.specs.Writing.{sizeIn, listRight, listsRight, contents
 use Rattle.writer.specs.Handed.{stationsIn, sourcesIn, daysIn, passesIn}
 use Rattle.writer.proofs.Numbers.{numbersOf, Bytes}
 use Rattle.writer.proofs.All.{bytes-back}
-use Rattle.writer.proofs.Tables.{tab, tab-long, wordsIn, word-is, numbers-long, words-of-tab}
-use Rattle.writer.proofs.Sections.{at-first, at-second, at-third, at-fourth, file-long, stations-tab, sources-tab, days-tab, passes-tab}
+use Rattle.whole.proofs.Values.{values-long}
+use Rattle.writer.proofs.Tables.{wordsIn, word-is, numbers-long, words-of-values}
+use Rattle.writer.proofs.Sections.{at-first, at-second, at-third, at-fourth, file-long, stations-values, sources-values, days-values, passes-values}
 
 only-kind : (b : Bool) (k n : ℕ) → eqb k n ≡ b → cond b true false ≡ true → k ≡ n
 only-kind true k n e h = eqb-true k n e
@@ -55,16 +56,16 @@ module _ (s : List ℕ) (h : refusalOf s ≡ 0) where
   four = eqb-true _ _ (and-true (present s 0) _ (five s (accepted-contents s h) .0) .1)
 
   pub stations-long : length (stationsIn s) ≡ 4 * countOf s 0
-  stations-long = ap length (stations-tab s h) ∙ tab-long _ _
+  stations-long = ap length (stations-values s h) ∙ values-long _ _
 
   pub sources-long : length (sourcesIn s) ≡ 3 * countOf s 1
-  sources-long = ap length (sources-tab s h) ∙ tab-long _ _
+  sources-long = ap length (sources-values s h) ∙ values-long _ _
 
   pub days-long : length (daysIn s) ≡ 5 * countOf s 2
-  days-long = ap length (days-tab s h) ∙ tab-long _ _
+  days-long = ap length (days-values s h) ∙ values-long _ _
 
   pub passes-long : length (passesIn s) ≡ 8 * countOf s 3
-  passes-long = ap length (passes-tab s h) ∙ tab-long _ _
+  passes-long = ap length (passes-values s h) ∙ values-long _ _
 
   table : List ℕ
   table = contentsFor kinds (4 * countOf s 0) (3 * countOf s 1) (5 * countOf s 2) (8 * countOf s 3)
@@ -105,10 +106,10 @@ module _ (s : List ℕ) (h : refusalOf s ≡ 0) where
       let f = countOf s 3 in
       let w = wordsIn s in
       let L = file-long s h in
-      let x1 : wordsOf (stationsIn s) ≡ take (4 * a) (drop 13 w) = ap wordsOf (stations-tab s h) ∙ words-of-tab s b 13 (4 * a) (omega (arith, L)) in
-      let x2 : wordsOf (sourcesIn s) ≡ take (3 * c) (drop (13 + 4 * a) w) = ap wordsOf (sources-tab s h) ∙ words-of-tab s b (13 + 4 * a) (3 * c) (omega (arith, L)) in
-      let x3 : wordsOf (daysIn s) ≡ take (5 * d) (drop (13 + 4 * a + 3 * c) w) = ap wordsOf (days-tab s h) ∙ words-of-tab s b (13 + 4 * a + 3 * c) (5 * d) (omega (arith, L)) in
-      let x4 : wordsOf (passesIn s) ≡ take (8 * f) (drop (13 + 4 * a + 3 * c + 5 * d) w) = ap wordsOf (passes-tab s h) ∙ words-of-tab s b (13 + 4 * a + 3 * c + 5 * d) (8 * f) (omega (arith, L)) in
+      let x1 : wordsOf (stationsIn s) ≡ take (4 * a) (drop 13 w) = ap wordsOf (stations-values s h) ∙ words-of-values s b 13 (4 * a) (omega (arith, L)) in
+      let x2 : wordsOf (sourcesIn s) ≡ take (3 * c) (drop (13 + 4 * a) w) = ap wordsOf (sources-values s h) ∙ words-of-values s b (13 + 4 * a) (3 * c) (omega (arith, L)) in
+      let x3 : wordsOf (daysIn s) ≡ take (5 * d) (drop (13 + 4 * a + 3 * c) w) = ap wordsOf (days-values s h) ∙ words-of-values s b (13 + 4 * a + 3 * c) (5 * d) (omega (arith, L)) in
+      let x4 : wordsOf (passesIn s) ≡ take (8 * f) (drop (13 + 4 * a + 3 * c + 5 * d) w) = ap wordsOf (passes-values s h) ∙ words-of-values s b (13 + 4 * a + 3 * c + 5 * d) (8 * f) (omega (arith, L)) in
       let last : take (8 * f) (drop (13 + 4 * a + 3 * c + 5 * d) w) ≡ drop (13 + 4 * a + 3 * c + 5 * d) w = take-all (8 * f) (drop (13 + 4 * a + 3 * c + 5 * d) w) (omega (arith, length-drop (13 + 4 * a + 3 * c + 5 * d) w, words-long)) in
       rw (stations-long, sources-long, days-long, passes-long, x1, x2, x3, x4, last, table-is)
       (ap bytesOfAll

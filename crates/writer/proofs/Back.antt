@@ -20,8 +20,10 @@ use Rattle.writer.specs.Round.{Longs}
 use Rattle.writer.proofs.Numbers.{numbersOf}
 use Rattle.writer.proofs.All.{all-long, numbers-back}
 use Rattle.writer.proofs.Counts.{lists-right}
-use Rattle.writer.proofs.Tables.{tab, tab-long, tab-at, wordsIn, word-is}
-use Rattle.writer.proofs.Sections.{stations-tab, sources-tab, days-tab, passes-tab}
+use Rattle.whole.specs.Values.{firstValues}
+use Rattle.whole.proofs.Values.{values-long, value-at}
+use Rattle.writer.proofs.Tables.{wordsIn, word-is}
+use Rattle.writer.proofs.Sections.{stations-values, sources-values, days-values, passes-values}
 
 -- the words of a file made of words
 module _ (ws : List ℕ) where
@@ -34,17 +36,17 @@ module _ (ws : List ℕ) where
 
   -- a section that stands behind x and in front of z
   section : (x z : List ℕ) (y : List ℤ) (at n : ℕ) → Longs y → ws ≡ x ++ (wordsOf y ++ z) → length x ≡ at → n ≡ length y
-      → tab n (λ (j : ℕ). toZ w64 (word (bytesOfAll ws) (at + j))) ≡ y
+      → firstValues n (λ (j : ℕ). toZ w64 (word (bytesOfAll ws) (at + j))) ≡ y
   section x z y at n f e g m =
       let ly = length-map y (ofZ w64) in
       let la = length-append x (wordsOf y ++ z) in
       let lb = length-append (wordsOf y) z in
       let lw = ap length e in
-      ext-getD (pos 0) (tab n (λ (j : ℕ). toZ w64 (word (bytesOfAll ws) (at + j)))) y (tab-long n _ ∙ m)
+      ext-getD (pos 0) (firstValues n (λ (j : ℕ). toZ w64 (word (bytesOfAll ws) (at + j)))) y (values-long n _ ∙ m)
       (λ j l.
-      let k : j < n = omega (arith, l, tab-long n (λ (j : ℕ). toZ w64 (word (bytesOfAll ws) (at + j)))) in
+      let k : j < n = omega (arith, l, values-long n (λ (j : ℕ). toZ w64 (word (bytesOfAll ws) (at + j)))) in
       let d : at + j ≡ length x + j = omega arith in
-      tab-at n j _ k
+      value-at n j _ k
       ∙ ap (toZ w64)
       (word-of (at + j) (omega arith)
       ∙ ap₂ (λ (u : List ℕ) (i : ℕ). getD u i 0) e d
@@ -99,7 +101,7 @@ module _ (p q r t : List ℤ) (g : listsRight kinds (length p) (length q) (lengt
     pub stations-back : stationsIn (fileOf kinds p q r t) ≡ p
     unfolding fileOf fileWords head
     stations-back =
-        stations-tab (fileOf kinds p q r t) h
+        stations-values (fileOf kinds p q r t) h
         ∙ section (fileWords kinds p q r t) head (wordsOf q ++ (wordsOf r ++ wordsOf t)) p 13 _ lp refl head-long n₁
 
     pub sources-back : sourcesIn (fileOf kinds p q r t) ≡ q
@@ -107,7 +109,7 @@ module _ (p q r t : List ℤ) (g : listsRight kinds (length p) (length q) (lengt
     sources-back =
         let a = length-map p (ofZ w64) in
         let x = length-append head (wordsOf p) in
-        sources-tab (fileOf kinds p q r t) h
+        sources-values (fileOf kinds p q r t) h
         ∙ section (fileWords kinds p q r t) (head ++ wordsOf p) (wordsOf r ++ wordsOf t) q _ _ lq (simp append-assoc) (omega (arith, head-long, n₁)) n₂
 
     pub days-back : daysIn (fileOf kinds p q r t) ≡ r
@@ -117,7 +119,7 @@ module _ (p q r t : List ℤ) (g : listsRight kinds (length p) (length q) (lengt
         let b = length-map q (ofZ w64) in
         let x = length-append head (wordsOf p) in
         let y = length-append (head ++ wordsOf p) (wordsOf q) in
-        days-tab (fileOf kinds p q r t) h
+        days-values (fileOf kinds p q r t) h
         ∙ section (fileWords kinds p q r t) ((head ++ wordsOf p) ++ wordsOf q) (wordsOf t) r _ _ lr (simp append-assoc) (omega (arith, head-long, n₁, n₂)) n₃
 
     pub passes-back : passesIn (fileOf kinds p q r t) ≡ t
@@ -129,5 +131,5 @@ module _ (p q r t : List ℤ) (g : listsRight kinds (length p) (length q) (lengt
         let x = length-append head (wordsOf p) in
         let y = length-append (head ++ wordsOf p) (wordsOf q) in
         let z = length-append ((head ++ wordsOf p) ++ wordsOf q) (wordsOf r) in
-        passes-tab (fileOf kinds p q r t) h
+        passes-values (fileOf kinds p q r t) h
         ∙ section (fileWords kinds p q r t) (((head ++ wordsOf p) ++ wordsOf q) ++ wordsOf r) [] t _ _ lt (simp (append-assoc, append-nil)) (omega (arith, head-long, n₁, n₂, n₃)) n₄

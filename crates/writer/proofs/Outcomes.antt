@@ -10,17 +10,18 @@ use lib.IntN.{ℤ, pos}
 use lib.Dec.{leb, eqb}
 use borrow.Author.Tests.{le-leb, lt-leb, leb-true, eq-eqb, ne-eqb}
 use Rattle.sections.specs.File.{refusalOf}
-use Rattle.whole.specs.declared.Number.{Number}
+use Rattle.whole.specs.Answers.{answerBy}
+use Rattle.whole.proofs.Answers.{answer-no}
 use Rattle.writer.specs.declared.Kinds.{Kinds}
 use Rattle.writer.specs.Bytes.{pasted}
-use Rattle.writer.specs.Writing.{listsRight, fileOf, orElse, answerOf, writeRefusal, writtenAs, roomAs}
+use Rattle.writer.specs.Writing.{listsRight, fileOf, orElse, writeRefusal, writtenAs, roomAs}
 
 -- what is written from the start on stands there
 pub front : (d e bs : List ℕ) (n : ℕ) → e ≡ pasted d 0 bs → n ≡ length bs → take n e ≡ bs
 unfolding pasted
 front d e bs n h k = rw h (take-at bs (drop (0 + length bs) d) n (sym k))
 
--- ---- the number, and the answer by it
+-- ---- the number
 
 pub or-first : (x y : ℕ) → (x ≡ 0 → ⊥) → orElse x y ≡ x
 or-first zero y h = absurd (h refl)
@@ -34,17 +35,9 @@ pub or-seven : (x : ℕ) → orElse x 7 ≡ 0 → ⊥
 or-seven zero h = omega arith
 or-seven (suc x) h = omega arith
 
-pub answer-no : (n m : ℕ) → (n ≡ 0 → ⊥) → answerOf n m ≡ record { refusal = pos n; value = pos 0 }
-unfolding answerOf
-answer-no n m h = rw (ne-eqb n 0 h)
-
-pub answer-yes : (n m : ℕ) → n ≡ 0 → answerOf n m ≡ record { refusal = pos 0; value = pos m }
-unfolding answerOf
-answer-yes n m h = rw (eq-eqb n 0 h)
-
 module _ (k : Kinds) (p q r t : List ℤ) (room : List ℕ) where
   -- the answer is that of the number, and by the number the room stays or holds the file
-  pub answered : writtenAs k p q r t (length room) ≡ answerOf (writeRefusal k p q r t (length room)) (length (fileOf k p q r t))
+  pub answered : writtenAs k p q r t (length room) ≡ answerBy (writeRefusal k p q r t (length room)) (pos (length (fileOf k p q r t)))
   unfolding writtenAs
   answered = refl
 
@@ -58,10 +51,10 @@ module _ (k : Kinds) (p q r t : List ℤ) (room : List ℕ) where
 
   -- refused with n, whatever the count of bytes
   pub refused : (n m : ℕ) → writeRefusal k p q r t (length room) ≡ n → (n ≡ 0 → ⊥)
-      → (answerOf n m ≡ writtenAs k p q r t (length room)) × (room ≡ roomAs k p q r t room)
+      → (answerBy n (pos m) ≡ writtenAs k p q r t (length room)) × (room ≡ roomAs k p q r t room)
   refused n m e h =
       let f : (writeRefusal k p q r t (length room) ≡ 0 → ⊥) = λ z. h (sym e ∙ z) in
-      (answer-no n m h ∙ sym (answered ∙ ap (λ (i : ℕ). answerOf i (length (fileOf k p q r t))) e ∙ answer-no n _ h), sym (room-stays f))
+      (answer-no n (pos m) h ∙ sym (answered ∙ ap (λ (i : ℕ). answerBy i (pos (length (fileOf k p q r t)))) e ∙ answer-no n _ h), sym (room-stays f))
 
   -- the number, by the lists, the reader's number of the file, and the room
   pub by-lists : listsRight k (length p) (length q) (length r) (length t) ≡ false → writeRefusal k p q r t (length room) ≡ 1

@@ -17,7 +17,8 @@ use Rattle.writer.specs.Writing.{listsRight, fileOf, kinds, writeRefusal
 use Rattle.writer.specs.Handed.{stationsIn, sourcesIn, daysIn, passesIn}
 use Rattle.writer.specs.Round.{Longs, writtenIn, ReadBack, WrittenBack}
 use Rattle.writer.proofs.Numbers.{Bytes}
-use Rattle.writer.proofs.Outcomes.{front, answered, answer-no, answer-yes, room-written, by-file, accepted}
+use Rattle.whole.proofs.Answers.{answer-no, answer-yes}
+use Rattle.writer.proofs.Outcomes.{front, answered, room-written, by-file, accepted}
 use Rattle.writer.proofs.Sections.{check-zero}
 use Rattle.writer.proofs.Again.{written-again, lists-again}
 use Rattle.writer.proofs.Back.{stations-back, sources-back, days-back, passes-back}

@@ -22,7 +22,9 @@ use Rattle.session.specs.Records.{checkOf, countsIn, stationOf, sourceOf, dayOf
 use Rattle.session.proofs.Fields.{size-first, size-second, size-third, size-fourth}
 use Rattle.session.proofs.Answers.{check-accepted, check-refused, asked-there, station-yes, source-yes, day-yes, pass-yes}
 use Rattle.writer.specs.Handed.{joined, ofStation, ofSource, ofDay, ofPass, stationsIn, sourcesIn, daysIn, passesIn}
-use Rattle.writer.proofs.Tables.{tab, tab-same, joined-tab}
+use Rattle.whole.specs.Values.{firstValues}
+use Rattle.whole.proofs.Values.{values-same}
+use Rattle.writer.proofs.Tables.{joined-values}
 
 check-zero′ : (s : List ℕ) → Dec (refusalOf s ≡ 0) → checkOf s .refusal ≡ pos 0 → refusalOf s ≡ 0
 check-zero′ s (yes h) e = h
@@ -32,11 +34,11 @@ pub check-zero : (s : List ℕ) → checkOf s .refusal ≡ pos 0 → refusalOf s
 check-zero s e = check-zero′ s (ℕ-discrete (refusalOf s) 0) e
 
 -- the fields of record i of place p, whose body starts at word at
-record-tab : (s : List ℕ) (p at size i : ℕ) → firstByte s p ≡ 8 * at → sizeOf s p ≡ size
-    → tab size (λ (k : ℕ). fieldAt s p i k) ≡ tab size (λ (k : ℕ). toZ w64 (word s (at + (size * i + k))))
+record-values : (s : List ℕ) (p at size i : ℕ) → firstByte s p ≡ 8 * at → sizeOf s p ≡ size
+    → firstValues size (λ (k : ℕ). fieldAt s p i k) ≡ firstValues size (λ (k : ℕ). toZ w64 (word s (at + (size * i + k))))
 unfolding recordByte
-record-tab s p at size i e f =
-    tab-same size _ _
+record-values s p at size i e f =
+    values-same size _ _
     (λ k l.
     let g : sizeOf s p * i ≡ size * i = ap (λ (n : ℕ). n * i) f in
     let h : firstByte s p + 8 * (sizeOf s p * i) + 8 * k ≡ 8 * (at + (size * i + k)) = omega (arith, e, g) in
@@ -71,30 +73,30 @@ module _ (s : List ℕ) (h : refusalOf s ≡ 0) where
   counted f n e = ap natAbs (ap f (check-accepted s h) ∙ e)
 
   -- the sections handed out
-  pub stations-tab : stationsIn s ≡ tab (4 * countOf s 0) (λ (j : ℕ). toZ w64 (word s (13 + j)))
-  unfolding stationsIn stationOf tab
-  stations-tab =
+  pub stations-values : stationsIn s ≡ firstValues (4 * countOf s 0) (λ (j : ℕ). toZ w64 (word s (13 + j)))
+  unfolding stationsIn stationOf firstValues
+  stations-values =
       ap (λ (n : ℕ). joined n (λ (i : ℕ). ofStation (stationAt s i))) (counted (λ (c : Counts). c .stations) (countOf s 0) refl)
-      ∙ joined-tab 4 (countOf s 0) (λ (i : ℕ). ofStation (stationAt s i)) (λ (j : ℕ). toZ w64 (word s (13 + j)))
-      (λ i l. ap ofStation (station-yes s i (asked-there s 0 i h l)) ∙ record-tab s 0 13 4 i at-first (size-first s h))
+      ∙ joined-values 4 (countOf s 0) (λ (i : ℕ). ofStation (stationAt s i)) (λ (j : ℕ). toZ w64 (word s (13 + j)))
+      (λ i l. ap ofStation (station-yes s i (asked-there s 0 i h l)) ∙ record-values s 0 13 4 i at-first (size-first s h))
 
-  pub sources-tab : sourcesIn s ≡ tab (3 * countOf s 1) (λ (j : ℕ). toZ w64 (word s (13 + 4 * countOf s 0 + j)))
-  unfolding sourcesIn sourceOf tab
-  sources-tab =
+  pub sources-values : sourcesIn s ≡ firstValues (3 * countOf s 1) (λ (j : ℕ). toZ w64 (word s (13 + 4 * countOf s 0 + j)))
+  unfolding sourcesIn sourceOf firstValues
+  sources-values =
       ap (λ (n : ℕ). joined n (λ (i : ℕ). ofSource (sourceAt s i))) (counted (λ (c : Counts). c .sources) (countOf s 1) refl)
-      ∙ joined-tab 3 (countOf s 1) (λ (i : ℕ). ofSource (sourceAt s i)) (λ (j : ℕ). toZ w64 (word s (13 + 4 * countOf s 0 + j)))
-      (λ i l. ap ofSource (source-yes s i (asked-there s 1 i h l)) ∙ record-tab s 1 (13 + 4 * countOf s 0) 3 i at-second (size-second s h))
+      ∙ joined-values 3 (countOf s 1) (λ (i : ℕ). ofSource (sourceAt s i)) (λ (j : ℕ). toZ w64 (word s (13 + 4 * countOf s 0 + j)))
+      (λ i l. ap ofSource (source-yes s i (asked-there s 1 i h l)) ∙ record-values s 1 (13 + 4 * countOf s 0) 3 i at-second (size-second s h))
 
-  pub days-tab : daysIn s ≡ tab (5 * countOf s 2) (λ (j : ℕ). toZ w64 (word s (13 + 4 * countOf s 0 + 3 * countOf s 1 + j)))
-  unfolding daysIn dayOf tab
-  days-tab =
+  pub days-values : daysIn s ≡ firstValues (5 * countOf s 2) (λ (j : ℕ). toZ w64 (word s (13 + 4 * countOf s 0 + 3 * countOf s 1 + j)))
+  unfolding daysIn dayOf firstValues
+  days-values =
       ap (λ (n : ℕ). joined n (λ (i : ℕ). ofDay (dayAt s i))) (counted (λ (c : Counts). c .days) (countOf s 2) refl)
-      ∙ joined-tab 5 (countOf s 2) (λ (i : ℕ). ofDay (dayAt s i)) (λ (j : ℕ). toZ w64 (word s (13 + 4 * countOf s 0 + 3 * countOf s 1 + j)))
-      (λ i l. ap ofDay (day-yes s i (asked-there s 2 i h l)) ∙ record-tab s 2 (13 + 4 * countOf s 0 + 3 * countOf s 1) 5 i at-third (size-third s h))
+      ∙ joined-values 5 (countOf s 2) (λ (i : ℕ). ofDay (dayAt s i)) (λ (j : ℕ). toZ w64 (word s (13 + 4 * countOf s 0 + 3 * countOf s 1 + j)))
+      (λ i l. ap ofDay (day-yes s i (asked-there s 2 i h l)) ∙ record-values s 2 (13 + 4 * countOf s 0 + 3 * countOf s 1) 5 i at-third (size-third s h))
 
-  pub passes-tab : passesIn s ≡ tab (8 * countOf s 3) (λ (j : ℕ). toZ w64 (word s (13 + 4 * countOf s 0 + 3 * countOf s 1 + 5 * countOf s 2 + j)))
-  unfolding passesIn passOf tab
-  passes-tab =
+  pub passes-values : passesIn s ≡ firstValues (8 * countOf s 3) (λ (j : ℕ). toZ w64 (word s (13 + 4 * countOf s 0 + 3 * countOf s 1 + 5 * countOf s 2 + j)))
+  unfolding passesIn passOf firstValues
+  passes-values =
       ap (λ (n : ℕ). joined n (λ (i : ℕ). ofPass (passAt s i))) (counted (λ (c : Counts). c .passes) (countOf s 3) refl)
-      ∙ joined-tab 8 (countOf s 3) (λ (i : ℕ). ofPass (passAt s i)) (λ (j : ℕ). toZ w64 (word s (13 + 4 * countOf s 0 + 3 * countOf s 1 + 5 * countOf s 2 + j)))
-      (λ i l. ap ofPass (pass-yes s i (asked-there s 3 i h l)) ∙ record-tab s 3 (13 + 4 * countOf s 0 + 3 * countOf s 1 + 5 * countOf s 2) 8 i at-fourth (size-fourth s h))
+      ∙ joined-values 8 (countOf s 3) (λ (i : ℕ). ofPass (passAt s i)) (λ (j : ℕ). toZ w64 (word s (13 + 4 * countOf s 0 + 3 * countOf s 1 + 5 * countOf s 2 + j)))
+      (λ i l. ap ofPass (pass-yes s i (asked-there s 3 i h l)) ∙ record-values s 3 (13 + 4 * countOf s 0 + 3 * countOf s 1 + 5 * countOf s 2) 8 i at-fourth (size-fourth s h))

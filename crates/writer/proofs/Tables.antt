@@ -13,56 +13,22 @@ use mir.Syntax.{w64}
 use mir.Val.{toZ, ofZ, Fits}
 use mir.Facts.{toZ-ofZ, ofZ-toZ}
 use Rattle.sections.specs.Words.{bitsAt, word, numberAt}
+use Rattle.whole.specs.Values.{firstValues}
+use Rattle.whole.proofs.Values.{values-long, value-at, values-join}
 use Rattle.writer.specs.Bytes.{wordsOf}
 use Rattle.writer.specs.Handed.{joined}
 use Rattle.writer.proofs.Numbers.{numbersOf, Bytes}
 use Rattle.writer.proofs.All.{bytes-drop}
 
--- f 0 to f (n - 1)
-unfoldable pub tab : ℕ → (ℕ → ℤ) → List ℤ
-tab zero f = []
-tab (suc n) f = tab n f ++ (f n ∷ [])
-
-pub tab-long : (n : ℕ) (f : ℕ → ℤ) → length (tab n f) ≡ n
-unfolding tab
-tab-long zero f = refl
-tab-long (suc n) f = length-append (tab n f) (f n ∷ []) ∙ omega (arith, tab-long n f)
-
-tab-at′ : (n j : ℕ) (f : ℕ → ℤ) → j < suc n → (j < n → getD (tab n f) j (pos 0) ≡ f j) → Dec (j ≡ n) → getD (tab n f ++ (f n ∷ [])) j (pos 0) ≡ f j
-tab-at′ n j f l r (yes e) =
-    let k : j ≡ length (tab n f) + 0 = omega (arith, e, tab-long n f) in
-    ap (λ (i : ℕ). getD (tab n f ++ (f n ∷ [])) i (pos 0)) k ∙ getD-append-add (tab n f) (f n ∷ []) 0 (pos 0) ∙ ap f (sym e)
-tab-at′ n j f l r (no h) =
-    let m : j < n = lt-of-le-ne (le-of-suc-le-suc l) h in
-    List·getD-append (tab n f) (f n ∷ []) (pos 0) j (omega (arith, tab-long n f, m)) ∙ r m
-
-pub tab-at : (n j : ℕ) (f : ℕ → ℤ) → j < n → getD (tab n f) j (pos 0) ≡ f j
-unfolding tab
-tab-at zero j f l = absurd (not-suc-le-zero l)
-tab-at (suc n) j f l = tab-at′ n j f l (tab-at n j f) (ℕ-discrete j n)
-
-pub tab-same : (n : ℕ) (f g : ℕ → ℤ) → ((k : ℕ) → k < n → f k ≡ g k) → tab n f ≡ tab n g
-unfolding tab
-tab-same zero f g e = refl
-tab-same (suc n) f g e = ap₂ (λ (x : List ℤ) (y : ℤ). x ++ (y ∷ [])) (tab-same n f g (λ k l. e k (omega arith))) (e n (omega arith))
-
-tab-append : (a b : ℕ) (g : ℕ → ℤ) → tab a g ++ tab b (λ (k : ℕ). g (a + k)) ≡ tab (a + b) g
-unfolding tab
-tab-append a zero g = append-nil (tab a g) ∙ ap (λ (n : ℕ). tab n g) (sym (add-zero a))
-tab-append a (suc b) g =
-    sym (append-assoc (tab a g) (tab b (λ (k : ℕ). g (a + k))) (g (a + b) ∷ []))
-    ∙ ap (λ (x : List ℤ). x ++ (g (a + b) ∷ [])) (tab-append a b g)
-    ∙ ap (λ (n : ℕ). tab n g) (sym (add-suc a b))
-
 -- records of size numbers each, one after the other
-pub joined-tab : (size n : ℕ) (f : ℕ → List ℤ) (g : ℕ → ℤ) → ((i : ℕ) → i < n → f i ≡ tab size (λ (k : ℕ). g (size * i + k))) → joined n f ≡ tab (size * n) g
-unfolding joined tab
-joined-tab size zero f g e = ap (λ (n : ℕ). tab n g) (sym (mul-zero size))
-joined-tab size (suc n) f g e =
+pub joined-values : (size n : ℕ) (f : ℕ → List ℤ) (g : ℕ → ℤ) → ((i : ℕ) → i < n → f i ≡ firstValues size (λ (k : ℕ). g (size * i + k))) → joined n f ≡ firstValues (size * n) g
+unfolding joined firstValues
+joined-values size zero f g e = ap (λ (n : ℕ). firstValues n g) (sym (mul-zero size))
+joined-values size (suc n) f g e =
     let m : size * n + size ≡ size * suc n = omega arith in
-    ap₂ (λ (x y : List ℤ). x ++ y) (joined-tab size n f g (λ i l. e i (omega arith))) (e n (omega arith))
-    ∙ tab-append (size * n) size g
-    ∙ ap (λ (k : ℕ). tab k g) m
+    ap₂ (λ (x y : List ℤ). x ++ y) (joined-values size n f g (λ i l. e i (omega arith))) (e n (omega arith))
+    ∙ values-join (size * n) size g
+    ∙ ap (λ (k : ℕ). firstValues k g) m
 
 -- ---- the words of a file
 
@@ -92,17 +58,17 @@ bits-fit s k b =
     record { fits = omega (arith, b k, b (k + 1), b (k + 2), b (k + 2 + 1), b (k + 4), b (k + 4 + 1), b (k + 4 + 2), b (k + 4 + 2 + 1)) }
 
 -- the n numbers from word at on, as words again
-pub words-of-tab : (s : List ℕ) → Bytes s → (at n : ℕ) → at + n ≤ length s / 8
-    → wordsOf (tab n (λ (j : ℕ). toZ w64 (word s (at + j)))) ≡ take n (drop at (wordsIn s))
-words-of-tab s b at n h =
+pub words-of-values : (s : List ℕ) → Bytes s → (at n : ℕ) → at + n ≤ length s / 8
+    → wordsOf (firstValues n (λ (j : ℕ). toZ w64 (word s (at + j)))) ≡ take n (drop at (wordsIn s))
+words-of-values s b at n h =
     let f : ℕ → ℤ = λ j. toZ w64 (word s (at + j)) in
     let W = numbersOf (length s / 8) s in
-    let la : length (wordsOf (tab n f)) ≡ n = length-map (tab n f) (ofZ w64) ∙ tab-long n f in
+    let la : length (wordsOf (firstValues n f)) ≡ n = length-map (firstValues n f) (ofZ w64) ∙ values-long n f in
     let lb : length (take n (drop at W)) ≡ n = length-take-le n (drop at W) (omega (arith, length-drop at W, numbers-long (length s / 8) s)) in
-    ext-getD 0 (wordsOf (tab n f)) (take n (drop at W)) (la ∙ sym lb)
+    ext-getD 0 (wordsOf (firstValues n f)) (take n (drop at W)) (la ∙ sym lb)
     (λ j l.
     let m : j < n = omega (arith, la, l) in
-    List·getD-map (ofZ w64) (tab n f) j (pos 0)
-    ∙ ap (ofZ w64) (tab-at n j f m)
+    List·getD-map (ofZ w64) (firstValues n f) j (pos 0)
+    ∙ ap (ofZ w64) (value-at n j f m)
     ∙ ofZ-toZ (bits-fit s (8 * (at + j)) b)
     ∙ sym (getD-take n (drop at W) j 0 m ∙ getD-drop at W j 0 ∙ word-is (length s / 8) s (at + j) (omega arith)))

@@ -10,6 +10,7 @@ use Rattle.sections.specs.Layouts.{layoutIn, standsIn}
 use Rattle.sections.specs.File.{refusalOf, between}
 use Rattle.writer.specs.Bytes.{bytesOfAll, wordsOf, pasted}
 use Rattle.whole.specs.declared.Number.{Number}
+use Rattle.whole.specs.Answers.{answerBy}
 use Rattle.writer.specs.declared.Kinds.{Kinds}
 
 -- how many numbers a record of kind k in place p has
@@ -50,11 +51,8 @@ writeRefusal k p q r t room =
     (orElse (refusalOf (fileOf k p q r t)) (cond (leb (length (fileOf k p q r t)) room) 0 7)) 1
 
 -- the answer: 0 and the number of bytes written, or the refusal and 0
-unfoldable pub answerOf : ℕ → ℕ → Number
-answerOf refusal n = cond (eqb refusal 0) (record { refusal = pos 0; value = pos n }) (record { refusal = pos refusal; value = pos 0 })
-
 unfoldable pub writtenAs : Kinds → List ℤ → List ℤ → List ℤ → List ℤ → ℕ → Number
-writtenAs k p q r t room = answerOf (writeRefusal k p q r t room) (length (fileOf k p q r t))
+writtenAs k p q r t room = answerBy (writeRefusal k p q r t room) (pos (length (fileOf k p q r t)))
 
 -- the room after the call: the file from its start, the rest untouched; refused, every byte stays
 unfoldable pub roomAs : Kinds → List ℤ → List ℤ → List ℤ → List ℤ → List ℕ → List ℕ

@@ -3,8 +3,10 @@ ghost use mathlib.Core.Path.{_≡_};
 ghost use mathlib.Core.Bool.{true};
 ghost use Prim.Native.Nat.{_+_, _<_, _≤_};
 ghost use lib.ListN.{length};
+ghost use lib.IntN.{pos};
+ghost use Rattle.whole.specs.Answers.{answerBy};
 ghost use Rattle.writer.specs.Bytes.{pasted};
-ghost use Rattle.writer.specs.Writing.{listsRight, fileOf, orElse, answerOf, writtenAs, roomAs, writtenOf, roomAfter};
+ghost use Rattle.writer.specs.Writing.{listsRight, fileOf, orElse, writtenAs, roomAs, writtenOf, roomAfter};
 
 pub mod bytes;
 pub mod lists;
@@ -58,7 +60,7 @@ fn or_else(x: usize, y: usize) -> usize
 // 0 and the n bytes written, or the refusal and 0.
 fn answer(refusal: usize, n: usize) -> Number
     requires { ⌜ (refusal < 9223372036854775808) × (n < 9223372036854775808) ⌝ }
-    ensures { λ w. ⌜ w ≡ answerOf refusal n ⌝ }
+    ensures { λ w. ⌜ w ≡ answerBy refusal (pos n) ⌝ }
 {
     if refusal != 0 {
         return Number {

@@ -6,7 +6,6 @@ use Prim.Native.Nat.{ℕ, _≤_}
 use native.Mathlib.Nat.{le-trans}
 use native.Mathlib.Omega.{arith}
 use borrow.Author.Needs.{needs}
-use borrow.Author.Tests.{ne-eqb}
 use lib.Dec.{lit≤}
 use lib.IntN.{ℤ}
 use mir.Syntax.{w64}
@@ -22,7 +21,9 @@ use Rattle.session.specs.Records.{stationBy, sourceBy}
 use Rattle.wave.specs.Bounds.{InStation, InSource}
 use Rattle.wave.specs.Delays.{delayBetween}
 use Rattle.delay.specs.declared.records.Named.{Named}
-use Rattle.delay.specs.Calls.{lowerOf, lowest, unless, idOk, allThere, number, noNumber, delayIn, delayNumber, delayOutcome}
+use Rattle.whole.specs.Answers.{number, noNumber}
+use Rattle.whole.proofs.Answers.{answer-yes, answer-no}
+use Rattle.delay.specs.Calls.{lowerOf, lowest, unless, idOk, allThere, delayIn, delayNumber, delayOutcome}
 use Rattle.delay.specs.Keeping.{namedBy}
 use Rattle.delay.specs.Sessions.{covers, earthIn}
 use Rattle.delay.proofs.Accepted.{names-in}
@@ -34,11 +35,11 @@ use Rattle.delay.proofs.delay.Tie as tie
 -- the answer, where the number is known
 refused : (s : List ℕ) (a b r day ms : ℤ) (n : ℕ) → delayNumber s a b r day ms ≡ n → (n ≡ 0 → ⊥) → noNumber n ≡ delayOutcome s a b r day ms
 unfolding delayOutcome
-refused s a b r day ms n e g = sym (rw (e, ne-eqb n 0 g) refl)
+refused s a b r day ms n e g = sym (rw e (answer-no n _ g))
 
 given : (s : List ℕ) (a b r day ms : ℤ) {v : ℤ} → delayNumber s a b r day ms ≡ 0 → v ≡ delayIn s a b r (epochOf day ms) → number v ≡ delayOutcome s a b r day ms
 unfolding delayOutcome
-given s a b r day ms e f = ap number f ∙ sym (rw e refl)
+given s a b r day ms e f = ap number f ∙ sym (answer-yes _ _ e)
 
 module _ (c : tie.After-judged) where
   abbrev start : tie.Start

@@ -22,7 +22,10 @@ use Rattle.wave.specs.Keeping.{sightOf}
 use Rattle.wave.proofs.Sights.{seen-between}
 use Rattle.delay.specs.declared.records.Named.{Named}
 use Rattle.delay.specs.Bounds.{InPass}
-use Rattle.delay.specs.Calls.{allThere, allCovered, samplesOf, firstValues, number, noNumber, delayIn, sampleIn, samplesNumber, samplesOutcome, samplesRoom}
+use Rattle.whole.specs.Answers.{number, noNumber}
+use Rattle.whole.specs.Values.{firstValues}
+use Rattle.whole.proofs.Answers.{answer-yes, answer-no}
+use Rattle.delay.specs.Calls.{allThere, allCovered, samplesOf, delayIn, sampleIn, samplesNumber, samplesOutcome, samplesRoom}
 use Rattle.delay.specs.Keeping.{namedBy, delayAt}
 use Rattle.delay.specs.Sessions.{earthIn, sampleEpoch}
 use Rattle.delay.proofs.Accepted.{pass-in, names-in}
@@ -36,7 +39,7 @@ use Rattle.delay.proofs.samples.Tie as tie
 module _ (s : List ℕ) (i : ℕ) (room : List ℤ) (n : ℕ) (e : samplesNumber s i (length room) ≡ n) (g : n ≡ 0 → ⊥) where
   refused : noNumber n ≡ samplesOutcome s i (length room)
   unfolding samplesOutcome
-  refused = sym (rw (e, ne-eqb n 0 g) refl)
+  refused = sym (rw e (answer-no n _ g))
 
   stays : room ≡ samplesRoom s i room
   unfolding samplesRoom
@@ -45,7 +48,7 @@ module _ (s : List ℕ) (i : ℕ) (room : List ℤ) (n : ℕ) (e : samplesNumber
 module _ (s : List ℕ) (i : ℕ) (room : List ℤ) (e : samplesNumber s i (length room) ≡ 0) where
   given : {v : ℤ} → v ≡ passOf s i .samples → number v ≡ samplesOutcome s i (length room)
   unfolding samplesOutcome
-  given f = ap number f ∙ sym (rw e refl)
+  given f = ap number f ∙ sym (answer-yes _ _ e)
 
   written : firstValues (samplesOf (passOf s i)) (sampleIn s (passOf s i)) ++ drop (samplesOf (passOf s i)) room ≡ samplesRoom s i room
   unfolding samplesRoom

@@ -1,7 +1,7 @@
 use mathlib.Core.Path.{_≡_, refl, sym, _∙_}
 use lib.IntN.{pos}
 use Rattle.session.proofs.Answers.{number-back}
-use Rattle.writer.proofs.Outcomes.{answer-no, answer-yes}
+use Rattle.whole.proofs.Answers.{answer-no, answer-yes}
 use borrow.Author.Needs.{needs}
 use Rattle.writer.proofs.answer.Statement.{statement}
 use Rattle.writer.proofs.answer.Tie as tie

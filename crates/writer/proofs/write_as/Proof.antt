@@ -3,11 +3,13 @@ use mathlib.Core.Path.{_≡_, sym, ap, ap₂, _∙_}
 use mathlib.Core.Logic.{⊎-elim}
 use native.Mathlib.Omega.{arith}
 use lib.ListN.{length}
+use lib.IntN.{pos}
 use lib.Seq.{length-take-le}
 use Rattle.sections.specs.File.{refusalOf}
 use Rattle.whole.proofs.Tests.{failed, passed}
 use Rattle.writer.specs.Bytes.{pasted}
-use Rattle.writer.specs.Writing.{fileOf, orElse, answerOf}
+use Rattle.whole.specs.Answers.{answerBy}
+use Rattle.writer.specs.Writing.{fileOf, orElse}
 use Rattle.writer.proofs.Outcomes.{front, answered, refused, room-stays, room-written, or-seven, by-lists, by-short, by-file}
 use borrow.Author.Needs.{needs}
 use Rattle.writer.proofs.write_as.Statement.{statement}
@@ -80,7 +82,7 @@ returns-3 c =
     let s = passed (c .before .before .before .before .before .before .before .before .before .lists-right .ensures) (c .before .before .before .before .before .before .before .before .if1 .left) in
     let long : length (fileOf (a .k) (a .stations .now) (a .sources .now) (a .days .now) (a .passes .now)) ≤ length (a .room .now) = omega (arith, n .ensures .0, c .before .before .if2 .left) in
     let e = by-file (a .k) (a .stations .now) (a .sources .now) (a .days .now) (a .passes .now) (a .room .now) s long ∙ sym (c .before .before .before .refusal-of .ensures .0 ∙ ap refusalOf f) in (
-      c .answer3 .ensures ∙ ap₂ answerOf (sym e) (n .ensures .0) ∙ sym (answered (a .k) (a .stations .now) (a .sources .now) (a .days .now) (a .passes .now) (a .room .now)),
+      c .answer3 .ensures ∙ ap₂ (λ (i m : ℕ). answerBy i (pos m)) (sym e) (n .ensures .0) ∙ sym (answered (a .k) (a .stations .now) (a .sources .now) (a .days .now) (a .passes .now) (a .room .now)),
       ⊎-elim
           (λ w. let z : c .before .before .before .refusal-of .result ≡ 0 = omega (arith, w .0 .taken) in w .5 ∙ w .2 .ensures ∙ ap (pasted (a .room .now) 0) f ∙ sym (room-written (a .k) (a .stations .now) (a .sources .now) (a .days .now) (a .passes .now) (a .room .now) (e ∙ z)))
           (λ w. w .1 ∙ sym (room-stays (a .k) (a .stations .now) (a .sources .now) (a .days .now) (a .passes .now) (a .room .now) (λ z. w .0 .left (sym e ∙ z))))

@@ -13,11 +13,12 @@ use Rattle.whole.proofs.Linear.{ret}
 use Rattle.session.specs.declared.Pass.{Pass}
 use Rattle.whole.proofs.Each.{below-each}
 use Rattle.wave.specs.declared.Sight.{Sight}
-use Rattle.delay.specs.Calls.{samplesOf, allCovered, firstValues}
+use Rattle.whole.specs.Values.{firstValues}
+use Rattle.delay.specs.Calls.{samplesOf, allCovered}
 use Rattle.delay.specs.Keeping.{TrueKept, delayAt}
 use Rattle.delay.specs.Sessions.{covers, sampleEpoch}
 use Rattle.delay.proofs.Epochs.{samples-count, samples-read, samples-cast, mjd-small, sample-ms}
-use Rattle.delay.proofs.Written.{room-length, value-next}
+use Rattle.delay.proofs.Written.{room-length, value-none, value-next}
 use Rattle.delay.proofs.pass.write_samples.Statement.{statement}
 use Rattle.delay.proofs.pass.write_samples.Tie as tie
 
@@ -38,7 +39,7 @@ kept-from-requires : tie.Need-kept-from-requires Inv-loop μ-loop
 kept-from-requires c κs = let s = c .before .before .before .before in (s .pre .0 .0, mjd-small (s .args .p) (s .pre .0 .1))
 
 loop-holds : tie.Need-loop-holds Inv-loop μ-loop
-loop-holds c = (omega arith, refl, c .kept-from .ensures)
+loop-holds c = (omega arith, value-none _ _, c .kept-from .ensures)
 
 -- what is known in the loop's body
 module _ (c : tie.In-loop Inv-loop μ-loop) where

@@ -1,0 +1,43 @@
+-- Laws of `firstValues`. Assumes nothing.
+use mathlib.Core.Path.{_≡_, refl, sym, ap, ap₂, _∙_}
+use mathlib.Core.List.{List, [], _∷_, _++_, append-assoc, append-nil}
+use Prim.Native.Nat.{ℕ, zero, suc, _+_, _<_}
+use native.Mathlib.Nat.{add-zero, add-suc, not-suc-le-zero, le-of-suc-le-suc}
+use native.Mathlib.Omega.{arith}
+use native.Mathlib.Decide.{ℕ-discrete}
+use lib.Arith.{lt-of-le-ne}
+use lib.ListN.{length, getD, length-append, List·getD-append}
+use lib.Seq.{getD-append-add}
+use lib.IntN.{ℤ, pos}
+use Rattle.whole.specs.Values.{firstValues}
+
+pub values-long : (n : ℕ) (f : ℕ → ℤ) → length (firstValues n f) ≡ n
+unfolding firstValues
+values-long zero f = refl
+values-long (suc n) f = length-append (firstValues n f) (f n ∷ []) ∙ omega (arith, values-long n f)
+
+last-at : (n j : ℕ) (f : ℕ → ℤ) → j < suc n → (j < n → getD (firstValues n f) j (pos 0) ≡ f j) → Dec (j ≡ n) → getD (firstValues n f ++ (f n ∷ [])) j (pos 0) ≡ f j
+last-at n j f l r (yes e) =
+    let k : j ≡ length (firstValues n f) + 0 = omega (arith, e, values-long n f) in
+    ap (λ (i : ℕ). getD (firstValues n f ++ (f n ∷ [])) i (pos 0)) k ∙ getD-append-add (firstValues n f) (f n ∷ []) 0 (pos 0) ∙ ap f (sym e)
+last-at n j f l r (no h) =
+    let m : j < n = lt-of-le-ne (le-of-suc-le-suc l) h in
+    List·getD-append (firstValues n f) (f n ∷ []) (pos 0) j (omega (arith, values-long n f, m)) ∙ r m
+
+pub value-at : (n j : ℕ) (f : ℕ → ℤ) → j < n → getD (firstValues n f) j (pos 0) ≡ f j
+unfolding firstValues
+value-at zero j f l = absurd (not-suc-le-zero l)
+value-at (suc n) j f l = last-at n j f l (value-at n j f) (ℕ-discrete j n)
+
+pub values-same : (n : ℕ) (f g : ℕ → ℤ) → ((k : ℕ) → k < n → f k ≡ g k) → firstValues n f ≡ firstValues n g
+unfolding firstValues
+values-same zero f g e = refl
+values-same (suc n) f g e = ap₂ (λ (x : List ℤ) (y : ℤ). x ++ (y ∷ [])) (values-same n f g (λ k l. e k (omega arith))) (e n (omega arith))
+
+pub values-join : (a b : ℕ) (g : ℕ → ℤ) → firstValues a g ++ firstValues b (λ (k : ℕ). g (a + k)) ≡ firstValues (a + b) g
+unfolding firstValues
+values-join a zero g = append-nil (firstValues a g) ∙ ap (λ (n : ℕ). firstValues n g) (sym (add-zero a))
+values-join a (suc b) g =
+    sym (append-assoc (firstValues a g) (firstValues b (λ (k : ℕ). g (a + k))) (g (a + b) ∷ []))
+    ∙ ap (λ (x : List ℤ). x ++ (g (a + b) ∷ [])) (values-join a b g)
+    ∙ ap (λ (n : ℕ). firstValues n g) (sym (add-suc a b))
