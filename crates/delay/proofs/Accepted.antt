@@ -20,7 +20,8 @@ use Rattle.session.proofs.Laws.{Natural, StationRanges, SourceRanges, DayRanges
 use Rattle.wave.specs.Bounds.{InTick, InRecord, InStation, InSource}
 use Rattle.wave.proofs.DayLaws.{ut1r-size}
 use Rattle.delay.specs.Bounds.{InPass}
-use Rattle.delay.specs.Calls.{hasId, allThere}
+use Rattle.delay.specs.Sessions.{hasId}
+use Rattle.delay.specs.Calls.{allThere}
 
 -- a natural between two bounds, as the code's requirements read it
 natural-in : {a b : ℕ} {z : ℤ} → Natural a b z → In (pos a) (pos b) z

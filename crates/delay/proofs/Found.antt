@@ -10,8 +10,7 @@ use mir.Val.{toZ, ofZ}
 use Rattle.sections.specs.File.{eqZ}
 use Rattle.session.specs.Records.{stationOf, sourceOf, dayOf, stationBy, sourceBy, dayBy}
 use Rattle.session.proofs.Laws.{station-by, station-absent, source-by, source-absent, day-by, day-absent}
-use Rattle.delay.specs.Calls.{hasId}
-use Rattle.delay.specs.Sessions.{hasDay}
+use Rattle.delay.specs.Sessions.{hasId, hasDay}
 
 module _ (s : List ℕ) (z : ℤ) where
   station-number : (t : Bool) → hasId s 0 z ≡ t → eqZ (stationBy s z .refusal) (pos 0) ≡ t

@@ -19,11 +19,12 @@ use Rattle.sections.proofs.Accepted.{refusal-most}
 use Rattle.session.specs.declared.Pass.{Pass}
 use Rattle.session.specs.Records.{stationBy, sourceBy, passOf}
 use Rattle.wave.proofs.Sizes.{between-size}
+use Rattle.wave.specs.Delays.{delayBetween}
 use Rattle.wave.proofs.Swapped.{between-neg, between-same}
 use Rattle.delay.specs.declared.EarthAnswer.{EarthAnswer}
 use Rattle.whole.specs.Answers.{answerBy}
-use Rattle.delay.specs.Calls.{lowest, unless, idOk, hasId, allThere, delayIn, delayNumber, delayOutcome, orientationOutcome, samplesOf, allCovered, sampleIn, samplesNumber, samplesOutcome, samplesRoom}
-use Rattle.delay.specs.Sessions.{covers, earthIn, sampleEpoch}
+use Rattle.delay.specs.Calls.{lowest, unless, idOk, allThere, delayIn, delayNumber, delayOutcome, orientationOutcome, samplesOf, allCovered, sampleIn, samplesNumber, samplesOutcome, samplesRoom}
+use Rattle.delay.specs.Sessions.{hasId, covers, earthIn, sampleEpoch}
 use Rattle.delay.proofs.Accepted.{names-in}
 use Rattle.delay.proofs.Covered.{earth-in-size}
 use Rattle.delay.proofs.Epochs.{sample-ms}
@@ -99,6 +100,13 @@ exchanged p =
 pub sample-swap : (s : List ℕ) (p : Pass) (j : ℕ) → sampleIn s (exchanged p) j ≡ negℤ (sampleIn s p j)
 unfolding sampleIn sampleEpoch
 sample-swap s p j = delay-in-swap s (p .station1) (p .station2) (p .source) (sampleEpoch p j)
+
+-- "One station may be named twice in a pass; its delays are 0."
+pub sample-same : (s : List ℕ) (p : Pass) (j : ℕ) → p .station1 ≡ p .station2 → sampleIn s p j ≡ pos 0
+unfolding sampleIn delayIn
+sample-same s p j e =
+    ap (λ (z : ℤ). delayBetween (stationBy s (p .station1)) (stationBy s z) (sourceBy s (p .source)) (earthIn s (sampleEpoch p j))) (sym e)
+    ∙ between-same (stationBy s (p .station1)) (sourceBy s (p .source)) (earthIn s (sampleEpoch p j))
 
 -- ---- "No delay is beyond 130,000,000,000 ps."
 

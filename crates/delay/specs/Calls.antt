@@ -5,21 +5,21 @@ use mathlib.Core.List.{List, [], _∷_, _++_}
 use lib.ListN.{length, drop}
 use lib.IntN.{ℤ, pos, natAbs}
 use lib.Dec.{leb, ltb, eqb}
-use lib.Signed.{leZ}
 use Rattle.earth.specs.declared.time.Epoch.{Epoch}
 use Rattle.whole.specs.declared.Number.{Number}
 use Rattle.whole.specs.Answers.{answerBy}
+use Rattle.whole.specs.Ranges.{within}
 use Rattle.whole.specs.Values.{firstValues}
 use Rattle.earth.specs.Ranges.{dayOk, msOk}
 use Rattle.earth.specs.Calls.{epochOf}
 use Rattle.session.specs.declared.Pass.{Pass}
 use Rattle.whole.specs.Each.{allBelow}
 use Rattle.sections.specs.File.{refusalOf, countOf}
-use Rattle.session.specs.Records.{stationBy, sourceBy, placeBy, passOf}
+use Rattle.session.specs.Records.{stationBy, sourceBy, passOf}
 use Rattle.delay.specs.declared.EarthAnswer.{EarthAnswer}
 use Rattle.wave.specs.declared.values.Earth.{Earth}
 use Rattle.wave.specs.Delays.{delayBetween}
-use Rattle.delay.specs.Sessions.{covers, earthIn, sampleEpoch}
+use Rattle.delay.specs.Sessions.{hasId, covers, earthIn, sampleEpoch}
 
 -- "The lowest number that applies is given": of two numbers, where 0 is no refusal; and of a list.
 abbrev pub lowerOf : ℕ → ℕ → ℕ
@@ -56,12 +56,9 @@ orientationOutcome s day ms =
 
 -- "ids 1-65,535"
 abbrev pub idOk : ℤ → Bool
-idOk z = leZ (pos 1) z && leZ z (pos 65535)
+idOk z = within (pos 1) (pos 65535) z
 
--- a station, or a source, of this id is there
-abbrev pub hasId : List ℕ → ℕ → ℤ → Bool
-hasId s p z = ltb (placeBy s p z) (countOf s p)
-
+-- the stations and the source of these ids are there
 abbrev pub allThere : List ℕ → ℤ → ℤ → ℤ → Bool
 allThere s a b r = hasId s 0 a && (hasId s 0 b && hasId s 1 r)
 
@@ -87,7 +84,7 @@ delayOutcome s a b r day ms = answerBy (delayNumber s a b r day ms) (delayIn s a
 abbrev pub samplesOf : Pass → ℕ
 samplesOf p = natAbs (p .samples)
 
--- "6: an epoch, or any sample's epoch, lacks record d or d+1"
+-- 6: "an epoch, or any sample's epoch, lacks record d or d+1"
 unfoldable pub allCovered : List ℕ → Pass → Bool
 allCovered s p = allBelow (samplesOf p) (λ (i : ℕ). covers s (sampleEpoch p i .day))
 
@@ -102,7 +99,7 @@ samplesNumber s i room =
     ∷ unless (leb (samplesOf p) room) 7
     ∷ [])
 
--- sample j of pass i
+-- sample j of the pass p
 unfoldable pub sampleIn : List ℕ → Pass → ℕ → ℤ
 sampleIn s p j = delayIn s (p .station1) (p .station2) (p .source) (sampleEpoch p j)
 

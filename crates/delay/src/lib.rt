@@ -1,7 +1,7 @@
 // The orientation of the earth, delays, and the samples of a pass, from a session file. Document 01, 'Day values' and 'Delay'.
-pub mod keep;
-pub mod pass;
-pub mod records;
+mod keep;
+mod pass;
+mod records;
 
 use earth::Epoch;
 use pass::all_covered;

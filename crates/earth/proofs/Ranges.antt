@@ -4,7 +4,8 @@ use mathlib.Core.Bool.{true, _&&_}
 use lib.IntN.{ℤ, pos, negℤ}
 use Rattle.whole.specs.Ranges.{In}
 use Rattle.whole.proofs.Linear.{and-true, in-yes}
-use Rattle.earth.specs.Ranges.{within, dayOk, msOk, fOk, InDay, InMs, InF}
+use Rattle.whole.specs.Ranges.{within}
+use Rattle.earth.specs.Ranges.{dayOk, msOk, fOk, InDay, InMs, InF}
 
 pub epoch-yes : (day ms most more : ℤ) → (dayOk day && (msOk ms && within (pos 0) most more)) ≡ true → InDay day × InMs ms × In (pos 0) most more
 epoch-yes day ms most more e =

@@ -1,4 +1,4 @@
--- The five public calls: what each returns, for every input (document 01, 'Refusal numbers': "A refused call returns its number and zeros").
+-- The public calls that can be refused: what each returns, for every input (document 01, 'Refusal numbers': "A refused call returns its number and zeros").
 use Prim.Native.Nat.{ℕ}
 use mathlib.Core.Bool.{Bool, true, false, _&&_}
 use lib.IntN.{ℤ, pos}

@@ -1,13 +1,8 @@
--- Document 01, 'Session file', Ranges, and 'Refusal numbers': "An argument has the range of its file field." Each range is given once as a
--- test, which decides a refusal, and its name with In is the same range as a fact, for the functions behind the calls.
-use mathlib.Core.Bool.{Bool, _&&_}
+-- Document 01, 'Session file', Ranges, and 'Refusal numbers': "An argument has the range of its file field." Each range stands as a
+-- test, which decides a refusal, and beside it, its name with In, as a fact, for the functions behind the calls.
+use mathlib.Core.Bool.{Bool}
 use lib.IntN.{ℤ, pos, negℤ}
-use lib.Signed.{leZ}
-use Rattle.whole.specs.Ranges.{In}
-
--- lo ≤ z ≤ hi
-abbrev pub within : ℤ → ℤ → ℤ → Bool
-within lo hi z = leZ lo z && leZ z hi
+use Rattle.whole.specs.Ranges.{within, In}
 
 -- "MJD 41,317-69,806"
 abbrev pub dayOk : ℤ → Bool

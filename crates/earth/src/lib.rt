@@ -15,7 +15,8 @@ use whole::sign::in_range;
 ghost use mathlib.Core.Path.{_≡_};
 ghost use mathlib.Core.Bool.{_&&_};
 ghost use lib.IntN.{pos};
-ghost use Rattle.earth.specs.Ranges.{within, dayOk, msOk, fOk};
+ghost use Rattle.whole.specs.Ranges.{within};
+ghost use Rattle.earth.specs.Ranges.{dayOk, msOk, fOk};
 ghost use Rattle.earth.specs.Rotation.{rotationOf};
 ghost use Rattle.earth.specs.Calls.{laterOutcome, argumentsOutcome, tideOutcome, angleOutcome};
 

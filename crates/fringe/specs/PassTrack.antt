@@ -4,7 +4,7 @@ use mathlib.Core.Bool.{cond}
 use mathlib.Core.List.{List}
 use lib.Dec.{eqb}
 use lib.IntN.{ℤ}
-use Rattle.session.specs.Records.{passOf, passAt}
+use Rattle.session.specs.Records.{passOf}
 use Rattle.whole.specs.Values.{firstValues}
 use Rattle.delay.specs.Calls.{samplesOf, sampleIn, samplesNumber}
 use Rattle.track.specs.Answer.{Outcome, outcome, refused}
@@ -17,4 +17,4 @@ passSamples s i = firstValues (samplesOf (passOf s i)) (sampleIn s (passOf s i))
 unfoldable pub passOutcome : List ℕ → ℕ → List ℤ → Outcome
 passOutcome s i room =
     let n = samplesNumber s i 4096 in
-    cond (eqb n 0) (outcome (passSamples s i) (passAt s i .tolerance) room) (refused n room)
+    cond (eqb n 0) (outcome (passSamples s i) (passOf s i .tolerance) room) (refused n room)

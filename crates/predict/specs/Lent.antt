@@ -9,6 +9,7 @@ use lib.Signed.{leZ, ltZ}
 use Rattle.whole.specs.Whole.{P, ∣_∣, R}
 use Rattle.whole.specs.Each.{allBelow}
 use Rattle.whole.specs.declared.Number.{Number}
+use Rattle.whole.specs.Ranges.{within}
 use Rattle.whole.specs.Answers.{number, noNumber}
 
 -- a segment's four numbers, as they are lent
@@ -38,7 +39,7 @@ placeOk at x = leZ (pos at) (x .first) && leZ (x .first) (pos at) && leZ (pos at
 
 -- length: "a length outside 1-1,024"
 abbrev pub lengthOk : Lent → Bool
-lengthOk x = leZ (pos 1) (x .count) && leZ (x .count) (pos 1024)
+lengthOk x = within (pos 1) (pos 1024) (x .count)
 
 -- range: "A beyond ±9·10^15, r beyond ±2·10^16"
 abbrev pub rangeOk : Lent → Bool

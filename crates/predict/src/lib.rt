@@ -5,9 +5,9 @@ ghost use Rattle.predict.specs.Lent.{predictOutcome};
 ghost use Rattle.predict.specs.Host.{hostOutcome};
 use whole::Number;
 
-pub mod doubles;
-pub mod lent;
-pub mod segment;
+mod doubles;
+mod lent;
+mod segment;
 
 // The prediction at the sample, in ps.
 pub fn predict(track: &[i64], sample: u64) -> Number

@@ -8,6 +8,7 @@ use lib.IntN.{ℤ, pos, _+ℤ_}
 use lib.Signed.{leZ, ltZ}
 use lib.Dec.{leb, eqb}
 use Rattle.whole.specs.Each.{allBelow, implies}
+use Rattle.whole.specs.Ranges.{within}
 use Rattle.sections.specs.Words.{numberAt, word}
 use Rattle.sections.specs.Layouts.{Range, Layout, layoutIn, standsIn, rising, consecutive, range}
 
@@ -89,7 +90,7 @@ fieldAt s p i k = numberAt s (recordByte s p i + 8 * k)
 
 -- a field lies in its range, so do all of a record, of a section, and of the file
 abbrev pub inside : Range → ℤ → Bool
-inside r z = leZ (r .low) z && leZ z (r .high)
+inside r z = within (r .low) (r .high) z
 
 abbrev pub rangeOf : Layout → ℕ → Range
 rangeOf l k = getD (l .fields) k (range 0 0)

@@ -15,8 +15,9 @@ pub record Range : Type 0 where
 abbrev pub range : ℕ → ℕ → Range
 range a b = record { low = pos a; high = pos b }
 
-abbrev pub within : ℕ → Range
-within a = record { low = negℤ (pos a); high = pos a }
+-- a on either side of zero
+abbrev pub eitherSide : ℕ → Range
+eitherSide a = record { low = negℤ (pos a); high = pos a }
 
 -- what the first fields of two neighbouring records keep: nothing, the later is the greater, or the later is the next number
 abbrev pub free : ℕ
@@ -38,26 +39,26 @@ pub record Layout : Type 0 where
 
 -- ---- "Ranges"
 
-abbrev pub id : Range
-id = range 1 65535
+abbrev pub idNumber : Range
+idNumber = range 1 65535
 
 abbrev pub coordinate : Range
-coordinate = within 6400000000
+coordinate = eitherSide 6400000000
 
 abbrev pub rightAscension : Range
 rightAscension = range 0 4294967295
 
 abbrev pub declination : Range
-declination = within 1073741824
+declination = eitherSide 1073741824
 
 abbrev pub mjd : Range
 mjd = range 41317 69806
 
 abbrev pub pole : Range
-pole = within 1000000
+pole = eitherSide 1000000
 
 abbrev pub ut1utc : Range
-ut1utc = within 900000000
+ut1utc = eitherSide 900000000
 
 abbrev pub taiutc : Range
 taiutc = range 0 99
@@ -78,11 +79,11 @@ tolerance = range 0 1000000
 
 -- "id, X, Y, Z"
 unfoldable pub station : Layout
-station = record { kind = 1; fields = id ∷ coordinate ∷ coordinate ∷ coordinate ∷ []; fewest = 1; most = 64; order = rising }
+station = record { kind = 1; fields = idNumber ∷ coordinate ∷ coordinate ∷ coordinate ∷ []; fewest = 1; most = 64; order = rising }
 
 -- "id, right ascension, declination"
 unfoldable pub source : Layout
-source = record { kind = 2; fields = id ∷ rightAscension ∷ declination ∷ []; fewest = 1; most = 256; order = rising }
+source = record { kind = 2; fields = idNumber ∷ rightAscension ∷ declination ∷ []; fewest = 1; most = 256; order = rising }
 
 -- "MJD, x, y, UT1-UTC, TAI-UTC"
 unfoldable pub orientation : Layout
@@ -90,7 +91,7 @@ orientation = record { kind = 3; fields = mjd ∷ pole ∷ pole ∷ ut1utc ∷ t
 
 -- "station 1, station 2, source, MJD, u, step ms, samples, tolerance ps"
 unfoldable pub pass : Layout
-pass = record { kind = 4; fields = id ∷ id ∷ id ∷ mjd ∷ millisecond ∷ step ∷ samples ∷ tolerance ∷ []; fewest = 1; most = 64; order = free }
+pass = record { kind = 4; fields = idNumber ∷ idNumber ∷ idNumber ∷ mjd ∷ millisecond ∷ step ∷ samples ∷ tolerance ∷ []; fewest = 1; most = 64; order = free }
 
 -- what may stand in each of the four places of a file
 unfoldable pub places : List (List Layout)

@@ -18,7 +18,7 @@ use borrow.Author.Tests.{lt-ltb, le-ltb, ltb-true, eqb-true, eq-eqb}
 use Rattle.whole.specs.Whole.{P, N, ∣_∣}
 use Rattle.whole.proofs.Linear.{add-law, ltZ-true, leZ-true, ⇒eq, eq⇒, P-neg, N-neg, and-true, no-ft}
 use Rattle.whole.specs.Each.{allBelow, firstNot, implies}
-use Rattle.sections.specs.Layouts.{Range, range, within, Layout, station, source, orientation, pass, rising, consecutive}
+use Rattle.sections.specs.Layouts.{Range, range, eitherSide, Layout, station, source, orientation, pass, rising, consecutive}
 use Rattle.sections.specs.File.{refusalOf, countOf, sizeOf, layoutOf, rangeOf, fieldAt, inside, eqZ, rangesRight, sectionRight, recordRight, fieldRight, steps, stepRight, orderRight}
 use Rattle.whole.proofs.Each.{below-each, first-hit, all-none, below-all, none-all, first-fails, first-before, first-most}
 use Rattle.sections.proofs.Numbers.{steps-rising, steps-consecutive, eqZ-true, eqZ-refl}
@@ -49,9 +49,9 @@ range-natural a b (pos n) h =
     record { value = n; is = refl; least = omega arith; most = omega arith }
 range-natural a b (negsuc n) h = no-ft h
 
-pub within-abs : (k : ℕ) (z : ℤ) → inside (within k) z ≡ true → ∣ z ∣ ≤ k
-within-abs k (pos n) h = let x = leZ-true (pos n) (pos k) (and-true (leZ (negℤ (pos k)) (pos n)) _ h .1) in omega arith
-within-abs k (negsuc n) h =
+pub either-abs : (k : ℕ) (z : ℤ) → inside (eitherSide k) z ≡ true → ∣ z ∣ ≤ k
+either-abs k (pos n) h = let x = leZ-true (pos n) (pos k) (and-true (leZ (negℤ (pos k)) (pos n)) _ h .1) in omega arith
+either-abs k (negsuc n) h =
     let x = leZ-true (negℤ (pos k)) (negsuc n) (and-true (leZ (negℤ (pos k)) (negsuc n)) _ h .0) in
     omega (arith, P-neg (pos k), N-neg (pos k))
 
@@ -99,9 +99,9 @@ module _ (s : List ℕ) (h : refusalOf s ≡ 0) (i : ℕ) where
       let f : (k : ℕ) → k < 4 → inside (rangeOf station k) (fieldAt s 0 i k) ≡ true = λ k m. rw (layout-first s h) at (field-inside s h 0 i k (omega arith) l (omega (arith, size-first s h))) in
       record {
         id = range-natural 1 65535 _ (f 0 (omega arith));
-        x = within-abs 6400000000 (fieldAt s 0 i 1) (f 1 (omega arith));
-        y = within-abs 6400000000 (fieldAt s 0 i 2) (f 2 (omega arith));
-        z = within-abs 6400000000 (fieldAt s 0 i 3) (f 3 (omega arith));
+        x = either-abs 6400000000 (fieldAt s 0 i 1) (f 1 (omega arith));
+        y = either-abs 6400000000 (fieldAt s 0 i 2) (f 2 (omega arith));
+        z = either-abs 6400000000 (fieldAt s 0 i 3) (f 3 (omega arith));
       }
 
   pub source-ranges : i < countOf s 1 → SourceRanges (sourceOf s i)
@@ -111,7 +111,7 @@ module _ (s : List ℕ) (h : refusalOf s ≡ 0) (i : ℕ) where
       record {
         id = range-natural 1 65535 _ (f 0 (omega arith));
         right-ascension = range-natural 0 4294967295 _ (f 1 (omega arith));
-        declination = within-abs 1073741824 (fieldAt s 1 i 2) (f 2 (omega arith));
+        declination = either-abs 1073741824 (fieldAt s 1 i 2) (f 2 (omega arith));
       }
 
   pub day-ranges : i < countOf s 2 → DayRanges (dayOf s i)
@@ -120,9 +120,9 @@ module _ (s : List ℕ) (h : refusalOf s ≡ 0) (i : ℕ) where
       let f : (k : ℕ) → k < 5 → inside (rangeOf orientation k) (fieldAt s 2 i k) ≡ true = λ k m. rw (layout-third s h) at (field-inside s h 2 i k (omega arith) l (omega (arith, size-third s h))) in
       record {
         mjd = range-natural 41317 69806 _ (f 0 (omega arith));
-        x = within-abs 1000000 (fieldAt s 2 i 1) (f 1 (omega arith));
-        y = within-abs 1000000 (fieldAt s 2 i 2) (f 2 (omega arith));
-        ut1-utc = within-abs 900000000 (fieldAt s 2 i 3) (f 3 (omega arith));
+        x = either-abs 1000000 (fieldAt s 2 i 1) (f 1 (omega arith));
+        y = either-abs 1000000 (fieldAt s 2 i 2) (f 2 (omega arith));
+        ut1-utc = either-abs 900000000 (fieldAt s 2 i 3) (f 3 (omega arith));
         tai-utc = range-natural 0 99 _ (f 4 (omega arith));
       }
 

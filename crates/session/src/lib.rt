@@ -3,7 +3,7 @@ ghost use mathlib.Core.Path.{_≡_};
 ghost use Rattle.session.specs.Records.{checkOf, stationAt, sourceAt, dayAt, passAt};
 ghost use Rattle.session.specs.Fault.{faultOf};
 
-pub mod faults;
+mod faults;
 pub mod records;
 
 use faults::order_fault;
@@ -104,7 +104,7 @@ pub fn check(file: &[u8]) -> Counts
     }
 }
 
-// Station index, counted from 0, of a file; 5 beyond the last.
+// The station with this index, counted from 0; 5 beyond the last.
 pub fn station_at(file: &[u8], index: usize) -> Station
     ensures { λ r. ⌜ r ≡ stationAt (now (file .entry)) index ⌝ }
 {
@@ -115,7 +115,7 @@ pub fn station_at(file: &[u8], index: usize) -> Station
     no_station(n)
 }
 
-// Source index, counted from 0, of a file; 5 beyond the last.
+// The source with this index, counted from 0; 5 beyond the last.
 pub fn source_at(file: &[u8], index: usize) -> Source
     ensures { λ r. ⌜ r ≡ sourceAt (now (file .entry)) index ⌝ }
 {
@@ -126,7 +126,7 @@ pub fn source_at(file: &[u8], index: usize) -> Source
     no_source(n)
 }
 
-// Orientation record index, counted from 0, of a file; 5 beyond the last.
+// The orientation record with this index, counted from 0; 5 beyond the last.
 pub fn day_at(file: &[u8], index: usize) -> Day
     ensures { λ r. ⌜ r ≡ dayAt (now (file .entry)) index ⌝ }
 {
@@ -137,7 +137,7 @@ pub fn day_at(file: &[u8], index: usize) -> Day
     no_day(n)
 }
 
-// Pass index, counted from 0, of a file; 5 beyond the last.
+// The pass with this index, counted from 0; 5 beyond the last.
 pub fn pass_at(file: &[u8], index: usize) -> Pass
     ensures { λ r. ⌜ r ≡ passAt (now (file .entry)) index ⌝ }
 {

@@ -31,5 +31,5 @@ startAt s t (suc i) = startAt s t i + runOf s t (startAt s t i)
 
 -- the lent lists hold the counts and the least rates of the first m runs
 abbrev pub Stored : List ℤ → ℕ → List ℕ → List ℕ → ℕ → Type 0
-Stored s t ks ps m = (i : ℕ) → i < m
-    → (getD ks i 0 ≡ runOf s t (startAt s t i)) × (getD ps i 0 ≡ least s t (startAt s t i) (runOf s t (startAt s t i)))
+Stored s t lengths rates m = (i : ℕ) → i < m
+    → (getD lengths i 0 ≡ runOf s t (startAt s t i)) × (getD rates i 0 ≡ least s t (startAt s t i) (runOf s t (startAt s t i)))

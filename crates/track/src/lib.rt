@@ -4,9 +4,9 @@ ghost use mathlib.Core.Path.{_≡_};
 ghost use Rattle.track.specs.Answer.{Outcome, outcome};
 use whole::Number;
 
-pub mod count;
-pub mod range;
-pub mod write;
+mod count;
+mod range;
+mod write;
 
 // Writes the track of the samples to the start of the room, four numbers to a segment, and answers how many segments that is.
 pub fn track(samples: &[i64], tolerance: i64, room: &mut [i64]) -> Number

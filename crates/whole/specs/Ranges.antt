@@ -1,8 +1,14 @@
--- A range as a fact: lo ≤ z ≤ hi, said of what each number has above zero and below. At literals each bound is a numeral, which `omega` reads with no rule.
+-- A range, lo ≤ z ≤ hi, as a test and as a fact.
 use Prim.Native.Nat.{_≤_}
+use mathlib.Core.Bool.{Bool, _&&_}
 use lib.IntN.{ℤ}
+use lib.Signed.{leZ}
 use Rattle.whole.specs.Whole.{P, N}
 
+abbrev pub within : ℤ → ℤ → ℤ → Bool
+within lo hi z = leZ lo z && leZ z hi
+
+-- The fact is said of what each number has above zero and below: at literals each bound is then a numeral, which `omega` reads with no rule.
 pub record In (lo hi z : ℤ) : Type 0 where
   pub n-lo : N z ≤ N lo
   pub p-lo : P lo ≤ P z

@@ -35,7 +35,7 @@ abbrev pub floorZ : ℤ → ℕ → ℤ
 floorZ (pos a) b = pos (a / b)
 floorZ (negsuc a) b = negsuc (a / b)
 
--- "Modulo, at least 0": what is left of z above its floor, z - floor(z / b)·b.
+-- Modulo, at least 0: what is left of z above its floor, z - floor(z / b)·b.
 abbrev pub modZ : ℤ → ℕ → ℕ
 modZ (pos a) b = a % b
 modZ (negsuc a) b = b - suc (a % b)

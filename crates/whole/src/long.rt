@@ -118,7 +118,7 @@ pub fn light_time(g: i64) -> i64
 }
 
 // floor(x / 1,024).
-fn thousandth(x: i64) -> i64
+fn upper_part(x: i64) -> i64
     ensures { λ r. ⌜ r ≡ floorZ x 1024 ⌝ }
 {
     x >> 10
@@ -138,7 +138,7 @@ pub fn within(a: i64, r: i64, j: i64, s: i64, k: i64) -> bool
     requires { ⌜ (∣ s ∣ ≤ 131000000000) × (∣ k ∣ ≤ 9000000000000000) ⌝ }
     ensures { λ t. ⌜ t ≡ leb ∣ a +ℤ r *ℤ j -ℤ pos 65536 *ℤ s ∣ ∣ k ∣ ⌝ }
 {
-    let high = thousandth(r) * j;
+    let high = upper_part(r) * j;
     if !in_range(high, -35184372088832, 35184372088832) {
         return false;
     }

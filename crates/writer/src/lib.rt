@@ -9,7 +9,7 @@ ghost use Rattle.writer.specs.Bytes.{pasted};
 ghost use Rattle.writer.specs.Writing.{listsRight, fileOf, orElse, writtenAs, roomAs, writtenOf, roomAfter};
 
 pub mod bytes;
-pub mod lists;
+mod lists;
 pub mod theorems;
 
 use bytes::copy;

@@ -20,13 +20,13 @@ use Rattle.whole.proofs.Rounding.{floor-abs}
 use Rattle.whole.proofs.long.within.Statement.{statement}
 use Rattle.whole.proofs.long.within.Tie as tie
 
-floor-of-r : (c : tie.After-thousandth) → c .thousandth .result ≡ floorZ (c .before .args .r) 1024
-floor-of-r c = rw (back (c .before .fits .r)) at (c .thousandth .ensures)
+floor-of-r : (c : tie.After-upper-part) → c .upper-part .result ≡ floorZ (c .before .args .r) 1024
+floor-of-r c = rw (back (c .before .fits .r)) at (c .upper-part .ensures)
 
-abbrev high : tie.After-thousandth → M
+abbrev high : tie.After-upper-part → M
 high c =
     let s = c .before in
-    var (c .thousandth .result) 19531250000000 (rw (floor-of-r c) (floor-abs (s .args .r) 1024 19531250000000 (omega arith) (omega arith)))
+    var (c .upper-part .result) 19531250000000 (rw (floor-of-r c) (floor-abs (s .args .r) 1024 19531250000000 (omega arith) (omega arith)))
     ⊠ var (s .args .j) 1023 (s .pre .0 .2)
 
 -- what the range test showed, of the number meant
@@ -45,8 +45,8 @@ module _ (c : tie.Else1) where
   fits : SFits w64 (start .args .r *ℤ start .args .j)
   fits = abs-fits (lt-of-le-of-lt small (lit< tt))
 
-thousandth-requires : tie.Need-thousandth-requires
-thousandth-requires c κs = search needs
+upper-part-requires : tie.Need-upper-part-requires
+upper-part-requires c κs = search needs
 
 mul-high : tie.Need-mul-high
 mul-high c = ok (high c) tt
@@ -78,7 +78,7 @@ pub within-spec : {M : Type 1} → statement M
 within-spec =
     tie.close
     (tie.spec
-    thousandth-requires
+    upper-part-requires
     mul-high
     in-range-requires
     returns
