@@ -3,12 +3,12 @@ ghost use Prim.Native.Nat.{_*_, _/_, _^_, _<_, _≤_};
 ghost use lib.Dec.{leb};
 ghost use lib.IntN.{pos, _+ℤ_, _-ℤ_, _*ℤ_};
 ghost use lib.Signed.{_≤ℤ_};
-ghost use Rattle.whole.specs.Whole.{P, ∣_∣, R, floorZ, modZ, line};
+ghost use Rattle.whole.specs.Whole.{posPart, ∣_∣, R, floorZ, modZ, line};
 
 #[no_mangle]
 pub extern "C" fn bench_floor(x: i64, b: i64) -> i64
     requires { ⌜ pos 1 ≤ℤ b ⌝ }
-    ensures { λ r. ⌜ r ≡ floorZ x (P b) ⌝ }
+    ensures { λ r. ⌜ r ≡ floorZ x (posPart b) ⌝ }
 {
     whole::divide::floor_div(x, b)
 }

@@ -11,7 +11,7 @@ use lib.IntN.{ℤ, pos, _+ℤ_}
 use lib.Signed.{_≤ℤ_}
 use mir.Syntax.{w64}
 use mir.Val.{toZ, ofZ}
-use Rattle.whole.specs.Whole.{P, N, ∣_∣}
+use Rattle.whole.specs.Whole.{posPart, negPart, ∣_∣}
 use Rattle.whole.proofs.Linear.{zarith, and-true, add-law, eq⇒}
 use Rattle.whole.proofs.Machine.{var, is}
 use Rattle.earth.specs.declared.time.Epoch.{Epoch}
@@ -77,7 +77,7 @@ module _ (s : List ℕ) (accepted : refusalOf s ≡ 0) where
       let f = fieldAt s 2 0 0 in
       let i = placeBy s 2 a in
       let j = placeBy s 2 b in
-      let k : ℕ = P d + N f - (P f + N d) in
+      let k : ℕ = posPart d + negPart f - (posPart f + negPart d) in
       let u : j < countOf s 2 = ltb-true j (countOf s 2) hb in
       let ea = eq⇒ a (f +ℤ pos i) (from-first a ha) in
       let eb = eq⇒ b (f +ℤ pos j) (from-first b hb) in

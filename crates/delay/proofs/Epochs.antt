@@ -10,9 +10,9 @@ use lib.Signed.{_≤ℤ_, nonNeg}
 use mir.Syntax.{w64}
 use mir.Val.{Fits, toZ, ofZ}
 use Rattle.whole.proofs.Machine.{var, is}
-use Rattle.whole.specs.Whole.{P, N, ∣_∣, floorZ}
+use Rattle.whole.specs.Whole.{posPart, negPart, ∣_∣, floorZ}
 use Rattle.whole.specs.Ranges.{In}
-use Rattle.whole.proofs.Linear.{zarith, parts-le, abs-add, mul-P, mul-N, add-law}
+use Rattle.whole.proofs.Linear.{zarith, parts-le, abs-add, mul-posPart, mul-negPart, add-law}
 use Rattle.whole.proofs.Rounding.{mod-below, floor-abs, floor-unique}
 use Rattle.whole.proofs.Quote.{⟨_⟩, #, _⊕_, _⊗_, by≡, by≤, by<}
 use Rattle.earth.specs.Ranges.{InMs, InAdd}
@@ -57,13 +57,13 @@ mjd-small p h = rw (mjd-back p h) (le-trans (in-abs (p .mjd) (h .day)) (lit≤ t
 pub add-in : (p : Pass) (i : ℕ) → InPass p → i < 4096 → InAdd (pos i *ℤ p .step)
 add-in p i h l =
     let k = h .step in
-    let m : i * P (p .step) ≤ 4095 * 3600000 = mul-le-mul {n₁ = i} {m₁ = P (p .step)} {n₂ = 4095} {m₂ = 3600000} (omega arith) (k .p-hi) in
-    let z : N (p .step) ≡ 0 = omega (arith, k .n-lo) in
-    let q : i * N (p .step) ≡ 0 = ap (λ (n : ℕ). i * n) z ∙ omega arith in
+    let m : i * posPart (p .step) ≤ 4095 * 3600000 = mul-le-mul {n₁ = i} {m₁ = posPart (p .step)} {n₂ = 4095} {m₂ = 3600000} (omega arith) (k .p-hi) in
+    let z : negPart (p .step) ≡ 0 = omega (arith, k .n-lo) in
+    let q : i * negPart (p .step) ≡ 0 = ap (λ (n : ℕ). i * n) z ∙ omega arith in
     record {
-      n-lo = omega (arith, mul-N (pos i) (p .step));
+      n-lo = omega (arith, mul-negPart (pos i) (p .step));
       p-lo = omega arith;
-      p-hi = omega (arith, mul-P (pos i) (p .step));
+      p-hi = omega (arith, mul-posPart (pos i) (p .step));
       n-hi = omega arith;
     }
 

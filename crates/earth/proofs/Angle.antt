@@ -4,7 +4,7 @@ use Prim.Native.Nat.{ℕ, _+_, _*_, _/_, _%_, _^_, _≤_, _<_}
 use native.Mathlib.Omega.{arith}
 use native.Mathlib.Nat.{mul-le-mul-left}
 use lib.IntN.{ℤ, pos, negsuc, negℤ, _+ℤ_, _-ℤ_, _*ℤ_}
-use Rattle.whole.specs.Whole.{P, N, ∣_∣, floorZ, modZ}
+use Rattle.whole.specs.Whole.{posPart, negPart, ∣_∣, floorZ, modZ}
 use Rattle.whole.proofs.Quote.{⟨_⟩, #, _⊕_, _⊝_, _⊗_, ⊖, by≡, of≡, bal}
 use Rattle.whole.proofs.Rounding.{floor-mod, mod-below}
 use Rattle.whole.specs.Ranges.{In}
@@ -45,8 +45,8 @@ small : (f : ℤ) (a b c : ℕ) → InF f → a < 27 → b < 1000 → c < 432
     → ∣ negℤ (pos 135448 *ℤ f +ℤ pos (32000000000 * a + 273781191000000 * b + 200000000 * c)) ∣ ≤ 345600000000000000
 small f a b c i ha hb hc =
     size-to (negℤ (pos 135448 *ℤ f +ℤ pos (32000000000 * a + 273781191000000 * b + 200000000 * c)))
-    (135448 * N f)
-    (135448 * P f + (32000000000 * a + 273781191000000 * b + 200000000 * c))
+    (135448 * negPart f)
+    (135448 * posPart f + (32000000000 * a + 273781191000000 * b + 200000000 * c))
     345600000000000000
     (omega (arith, bal (⊖ (# 135448 ⊗ ⟨ f ⟩ ⊕ # (32000000000 * a + 273781191000000 * b + 200000000 * c)))))
     (omega (arith, i .n-lo))

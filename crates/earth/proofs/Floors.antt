@@ -11,7 +11,7 @@ use lib.Signed.{_≤ℤ_, quotZ, remZ}
 use mir.Facts.{and-yes, ltb-yes}
 use mir.Syntax.{w64}
 use mir.Val.{toZ, ofZ}
-use Rattle.whole.specs.Whole.{P, N, ∣_∣, floorZ, modZ}
+use Rattle.whole.specs.Whole.{posPart, negPart, ∣_∣, floorZ, modZ}
 use Rattle.whole.specs.Ranges.{In}
 use Rattle.whole.proofs.Linear.{ret}
 use Rattle.whole.proofs.Quote.{⟨_⟩, #, _⊕_, _⊗_, by≡, by≤, by<, of≡}
@@ -62,9 +62,9 @@ rest-is m b t s h =
     ap (λ (z : ℤ). toZ w64 (ofZ w64 (remZ z (pos b)))) (is m t) ∙ ap (λ (z : ℤ). toZ w64 (ofZ w64 z)) (rem-mod (val m) b h) ∙ ret (pos (modZ (val m) b)) f
 
 -- ---- a value that lies in a range, as a leaf of an expression
-pub in-abs : {lo hi : ℤ} (z : ℤ) → In lo hi z → ∣ z ∣ ≤ N lo + P hi
+pub in-abs : {lo hi : ℤ} (z : ℤ) → In lo hi z → ∣ z ∣ ≤ negPart lo + posPart hi
 in-abs (pos n) i = omega (arith, i .p-hi)
 in-abs (negsuc n) i = omega (arith, i .n-lo)
 
 abbrev pub leaf : {lo hi : ℤ} (z : ℤ) → In lo hi z → M
-leaf {lo} {hi} z i = var z (N lo + P hi) (in-abs z i)
+leaf {lo} {hi} z i = var z (negPart lo + posPart hi) (in-abs z i)

@@ -9,7 +9,7 @@ use lib.Dec.{T, leb, leb→le}
 use lib.IntN.{ℤ, pos, negsuc, _*ℤ_}
 use mir.Facts.{and-yes}
 use Rattle.whole.specs.Whole.{∣_∣, near, R}
-use Rattle.whole.proofs.Linear.{P-neg, N-neg, abs-mul≤}
+use Rattle.whole.proofs.Linear.{posPart-neg, negPart-neg, abs-mul≤}
 use Rattle.whole.proofs.Rounding.{near-mono, near-mul}
 use Rattle.earth.specs.declared.ticks.Delaunay.{Delaunay}
 use Rattle.earth.specs.DelaunayArguments.{argumentsOf}
@@ -62,7 +62,7 @@ near-most a b k h l = omega (arith, near-mono a (k * b) b h l, near-mul k b h)
 
 pub R-most : (z : ℤ) (b k : ℕ) → 0 < b → ∣ z ∣ ≤ k * b → ∣ R z b ∣ ≤ k
 R-most (pos a) b k h l = omega (arith, near-most a b k h (omega arith))
-R-most (negsuc a) b k h l = omega (arith, near-most (suc a) b k h (omega arith), P-neg (pos (near (suc a) b)), N-neg (pos (near (suc a) b)))
+R-most (negsuc a) b k h l = omega (arith, near-most (suc a) b k h (omega arith), posPart-neg (pos (near (suc a) b)), negPart-neg (pos (near (suc a) b)))
 
 -- "never beyond 2,723,000 either side"
 pub tide-most : (n : ℤ) → ∣ tideAt n ∣ ≤ 2723000

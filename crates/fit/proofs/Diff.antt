@@ -7,12 +7,12 @@ use native.Mathlib.Omega.{arith}
 use lib.Dec.{ltb, leb, ltb→lt, nltb→le, leb→le, le→leb}
 use lib.IntN.{ℤ, pos, negsuc, negℤ, subℕ, _+ℤ_, _-ℤ_, _*ℤ_}
 use lib.Signed.{_≤ℤ_}
-use Rattle.whole.specs.Whole.{P, ∣_∣}
+use Rattle.whole.specs.Whole.{posPart, ∣_∣}
 use Rattle.fit.proofs.Tests.{by-test}
 
 -- a difference is a natural, or less than 0
-pub sub-ind : (a b : ℕ) (P : ℤ → Type 0) → ((k : ℕ) → a ≡ b + k → P (pos k)) → ((k : ℕ) → b ≡ suc (a + k) → P (negsuc k)) → P (subℕ a b)
-sub-ind a b P f g = by-test (ltb a b) (negsuc (b - suc a)) (pos (a - b)) P
+pub sub-ind : (a b : ℕ) (Q : ℤ → Type 0) → ((k : ℕ) → a ≡ b + k → Q (pos k)) → ((k : ℕ) → b ≡ suc (a + k) → Q (negsuc k)) → Q (subℕ a b)
+sub-ind a b Q f g = by-test (ltb a b) (negsuc (b - suc a)) (pos (a - b)) Q
     (λ t. g (b - suc a) (let l : a < b = ltb→lt a b t in omega arith))
     (λ t. f (a - b) (let l : b ≤ a = nltb→le a b t in omega arith))
 

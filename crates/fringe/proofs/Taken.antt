@@ -4,18 +4,20 @@ use mathlib.Core.Bool.{cond}
 use mathlib.Core.List.{List}
 use Prim.Native.Nat.{ℕ, zero, suc, _+_, _-_, _≤_}
 use native.Mathlib.Omega.{arith}
-use borrow.Author.Tests.{leb-true}
+use borrow.Author.Tests.{leb-true, ltb-true}
 use lib.Dec.{eqb, eqb·suc-zero}
 use lib.IntN.{ℤ, pos, negsuc, natAbs}
 use lib.ListN.{length, take, drop, length-append, length-drop}
 use lib.Seq.{take-at}
 use Rattle.whole.specs.Whole.{∣_∣}
 use Rattle.whole.specs.declared.Number.{Number}
+use Rattle.sections.specs.File.{countOf}
 use Rattle.session.specs.Records.{passOf, passAt}
 use Rattle.whole.specs.Values.{firstValues}
 use Rattle.whole.proofs.Answers.{answer-yes, answer-refusal}
 use Rattle.whole.proofs.Values.{values-long}
 use Rattle.delay.specs.Calls.{samplesOf, sampleIn, samplesNumber, samplesOutcome, samplesRoom}
+use Rattle.session.proofs.Answers.{asked-there, pass-yes}
 use Rattle.delay.proofs.Theorems.{samples-clear}
 use Rattle.track.specs.Answer.{Outcome, outcome, refused}
 use Rattle.fringe.specs.PassTrack.{passSamples, passOutcome}
@@ -63,15 +65,18 @@ by-case (suc n) x room h = rw (eqb·suc-zero n)
 
 pub refused-is : (s : List ℕ) (i : ℕ) (room : List ℤ) → (samplesNumber s i 4096 ≡ 0 → ⊥) → refused (samplesNumber s i 4096) room ≡ passOutcome s i room
 unfolding passOutcome
-refused-is s i room h = by-case (samplesNumber s i 4096) (outcome (passSamples s i) (passAt s i .tolerance) room) room h
+refused-is s i room h = by-case (samplesNumber s i 4096) (outcome (passSamples s i) (passOf s i .tolerance) room) room h
 
 pub made-is : (s : List ℕ) (i : ℕ) (room : List ℤ)
     → samplesNumber s i 4096 ≡ 0
-    → outcome (passSamples s i) (passAt s i .tolerance) room ≡ passOutcome s i room
+    → outcome (passSamples s i) (passOf s i .tolerance) room ≡ passOutcome s i room
 unfolding passOutcome
 made-is s i room e = rw e
 
--- where nothing applies the samples are few
+-- where nothing applies the pass is there, and its samples are few
+pub pass-is : (s : List ℕ) (i l : ℕ) → samplesNumber s i l ≡ 0 → passAt s i ≡ passOf s i
+pass-is s i l e = let g = samples-clear s i l e in pass-yes s i (asked-there s 3 i (g .accepted) (ltb-true i (countOf s 3) (g .there)))
+
 pub few : (s : List ℕ) (i l : ℕ) → samplesNumber s i l ≡ 0 → samplesOf (passOf s i) ≤ l
 few s i l e = leb-true (samplesOf (passOf s i)) l (samples-clear s i l e .enough)
 

@@ -9,8 +9,8 @@ use lib.Dec.{eqb, leb}
 use lib.IntN.{ℤ, pos}
 use lib.ListN.{length, drop, replicate, length-append, length-replicate}
 use lib.Signed.{leZ}
-use Rattle.whole.specs.Whole.{P, N}
-use Rattle.session.specs.Records.{passAt}
+use Rattle.whole.specs.Whole.{posPart, negPart}
+use Rattle.session.specs.Records.{passOf}
 use Rattle.delay.specs.Calls.{samplesNumber}
 use Rattle.track.specs.Segments.{Segment, flat}
 use Rattle.track.specs.Made.{trackOf}
@@ -21,9 +21,9 @@ use Rattle.lines.specs.Text.{refusedLine, passLine, segmentLines, outcom
 
 -- as many segments as the outcome says stand in its room, and there is room for k
 pub record Holds (k : ℕ) (o : Outcome) : Type 0 where
-  pub counted : N (o .answer .value) ≡ 0
-  pub few : P (o .answer .value) ≤ k
-  pub there : 4 * P (o .answer .value) ≤ length (o .room)
+  pub counted : negPart (o .answer .value) ≡ 0
+  pub few : posPart (o .answer .value) ≤ k
+  pub there : 4 * posPart (o .answer .value) ≤ length (o .room)
 
 either : (k : ℕ) (t : Bool) (x y : Outcome) → (t ≡ true → Holds k x) → Holds k y → Holds k (cond t x y)
 either k true x y h g = h refl
@@ -43,7 +43,7 @@ some k xs room h =
 track-holds : (s : List ℤ) (t : ℤ) (room : List ℤ) → Holds (length room / 4) (outcome s t room)
 unfolding outcome
 track-holds s t room =
-    let xs = trackOf s (P t) in
+    let xs = trackOf s (posPart t) in
     let k = length room / 4 in
     either k (inRange s t) _ _
     (λ (_ : inRange s t ≡ true). either k (leb (length xs) k) _ _ (λ (e : leb (length xs) k ≡ true). some k xs room (leb-true (length xs) k e)) (none k 8 room))
@@ -53,7 +53,7 @@ pass-holds : (s : List ℕ) (i : ℕ) (room : List ℤ) → Holds (length room /
 unfolding passOutcome
 pass-holds s i room =
     let n = samplesNumber s i 4096 in
-    either (length room / 4) (eqb n 0) _ _ (λ (_ : eqb n 0 ≡ true). track-holds (passSamples s i) (passAt s i .tolerance) room) (none (length room / 4) n room)
+    either (length room / 4) (eqb n 0) _ _ (λ (_ : eqb n 0 ≡ true). track-holds (passSamples s i) (passOf s i .tolerance) room) (none (length room / 4) n room)
 
 -- "It lends room for 2,048 segments, which is always enough" of the room for their lines
 pub lent-holds : (s : List ℕ) (i : ℕ) → Holds 2048 (lentOutcome s i)
@@ -66,6 +66,6 @@ unfolding outcomeText
 refused-is i o e = rw e
 
 pub made-is : (i : ℕ) (o : Outcome) → leZ (pos 1) (o .answer .refusal) ≡ false
-    → outcomeText i o ≡ passLine i (o .answer .value) ++ segmentLines (o .room) (P (o .answer .value))
+    → outcomeText i o ≡ passLine i (o .answer .value) ++ segmentLines (o .room) (posPart (o .answer .value))
 unfolding outcomeText
 made-is i o e = rw e

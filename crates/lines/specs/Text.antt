@@ -6,7 +6,7 @@ use lib.Dec.{leb}
 use lib.IntN.{ℤ, pos}
 use lib.ListN.{getD, replicate}
 use lib.Signed.{leZ}
-use Rattle.whole.specs.Whole.{P}
+use Rattle.whole.specs.Whole.{posPart}
 use Rattle.sections.specs.File.{refusalOf, countOf}
 use Rattle.track.specs.Segments.{Segment}
 use Rattle.track.specs.Answer.{Outcome}
@@ -45,7 +45,7 @@ unfoldable pub outcomeText : ℕ → Outcome → List ℕ
 outcomeText i o =
     let n = o .answer .refusal in
     let m = o .answer .value in
-    cond (leZ (pos 1) n) (refusedLine n) (passLine i m ++ segmentLines (o .room) (P m))
+    cond (leZ (pos 1) n) (refusedLine n) (passLine i m ++ segmentLines (o .room) (posPart m))
 
 -- "It lends room for 2,048 segments": what `fringe::pass_track` answers for pass i of a file, and leaves there
 abbrev pub lentOutcome : List ℕ → ℕ → Outcome

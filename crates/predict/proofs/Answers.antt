@@ -6,7 +6,7 @@ use mathlib.Core.Logic.{_↔_, ⊎-elim}
 use Prim.Native.Nat.{ℕ, _+_, _-_, _≤_}
 use native.Mathlib.Omega.{arith}
 use lib.IntN.{ℤ, pos, _-ℤ_}
-use Rattle.whole.specs.Whole.{P, ∣_∣}
+use Rattle.whole.specs.Whole.{posPart, ∣_∣}
 use Rattle.fit.proofs.Tests.{lt-or}
 use Rattle.whole.specs.declared.Number.{Number}
 use Rattle.predict.specs.declared.Host.{Host}
@@ -30,8 +30,8 @@ answer-size (x ∷ xs) at k h e =
     let g = good at x (sound-head at x xs e .0) in
     ⊎-elim
     (λ l. subst (λ (n : Number). ∣ n .value ∣ ≤ 131_000_000_000) (sym (covered at x g xs k h l)) (g .predictions (k - at) (omega arith)))
-    (λ l. subst (λ (n : Number). ∣ n .value ∣ ≤ 131_000_000_000) (sym (passed at x g xs k h l)) (answer-size xs (at + P (x .count)) k l (sound-head at x xs e .1)))
-    (lt-or k (at + P (x .count)))
+    (λ l. subst (λ (n : Number). ∣ n .value ∣ ≤ 131_000_000_000) (sym (passed at x g xs k h l)) (answer-size xs (at + posPart (x .count)) k l (sound-head at x xs e .1)))
+    (lt-or k (at + posPart (x .count)))
 
 pub value-size : (s : List ℤ) (k : ℕ) → ∣ predictOutcome s k .value ∣ ≤ 131_000_000_000
 unfolding predictOutcome

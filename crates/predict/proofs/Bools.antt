@@ -5,7 +5,7 @@ use Prim.Native.Nat.{_+_, _≤_}
 use native.Mathlib.Omega.{arith}
 use lib.IntN.{ℤ, pos, _+ℤ_, _-ℤ_, +ℤ-idr}
 use lib.Signed.{leZ, _≤ℤ_}
-use Rattle.whole.specs.Whole.{P, N, ∣_∣}
+use Rattle.whole.specs.Whole.{posPart, negPart, ∣_∣}
 use Rattle.whole.proofs.Linear.{leZ-true, leZ-false, le⇒, size-to}
 use Rattle.whole.proofs.Quote.{⟨_⟩, #, _⊝_, bal}
 
@@ -13,7 +13,7 @@ pub yes-and : (a b : Bool) → a ≡ true → (a && b) ≡ b
 yes-and a b h = cc
 
 -- the same comparison, written otherwise
-pub leZ-same : (a b c d : ℤ) → P a + N b + (P d + N c) ≡ P b + N a + (P c + N d) → leZ a b ≡ leZ c d
+pub leZ-same : (a b c d : ℤ) → posPart a + negPart b + (posPart d + negPart c) ≡ posPart b + negPart a + (posPart c + negPart d) → leZ a b ≡ leZ c d
 leZ-same a b c d e = go (leZ a b) (leZ c d) refl refl
   where
     go : (x y : Bool) → x ≡ leZ a b → y ≡ leZ c d → x ≡ y
@@ -25,8 +25,8 @@ leZ-same a b c d e = go (leZ a b) (leZ c d) refl refl
 -- a count from 1 to 1,024, and the place of its last sample
 pub counted : (c : ℤ) → pos 1 ≤ℤ c → c ≤ℤ pos 1024 → (∣ c ∣ ≤ 1024) × (∣ c -ℤ pos 1 ∣ ≤ 1023)
 counted c h k = (
-  size-to c (P c) (N c) 1024 (omega arith) (omega (arith, le⇒ c (pos 1024) k)) (omega (arith, le⇒ (pos 1) c h)),
-  size-to (c -ℤ pos 1) (P c) (N c + 1) 1023 (omega (arith, bal (⟨ c ⟩ ⊝ # 1))) (omega (arith, le⇒ c (pos 1024) k)) (omega (arith, le⇒ (pos 1) c h)),
+  size-to c (posPart c) (negPart c) 1024 (omega arith) (omega (arith, le⇒ c (pos 1024) k)) (omega (arith, le⇒ (pos 1) c h)),
+  size-to (c -ℤ pos 1) (posPart c) (negPart c + 1) 1023 (omega (arith, bal (⟨ c ⟩ ⊝ # 1))) (omega (arith, le⇒ c (pos 1024) k)) (omega (arith, le⇒ (pos 1) c h)),
 )
 
 pub less-none : (z : ℤ) → z -ℤ pos 0 ≡ z

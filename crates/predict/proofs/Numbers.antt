@@ -10,7 +10,7 @@ use lib.ListN.{length, getD, drop, length-drop}
 use lib.Seq.{drop-cons}
 use lib.IntN.{ℤ, pos, negsuc, _+ℤ_, _-ℤ_, _*ℤ_}
 use lib.Signed.{leZ, ltZ}
-use Rattle.whole.specs.Whole.{P, N, ∣_∣}
+use Rattle.whole.specs.Whole.{posPart, negPart, ∣_∣}
 use Rattle.whole.proofs.Linear.{and-true, leZ-true, ⇒eq, ltZ-true, ltZ-false, no-ft}
 use Rattle.whole.proofs.Quote.{⟨_⟩, #, _⊕_, _⊝_, bal, by≡}
 use Rattle.whole.proofs.Each.{below-each}
@@ -53,17 +53,17 @@ lentOf-none s i h = short (drop (4 * i) s) (omega (arith, length-drop (4 * i) s)
 -- what the four conditions leave
 pub record Good (at : ℕ) (x : Lent) : Type 0 where
   pub first : x .first ≡ pos at
-  pub count : x .count ≡ pos (P (x .count))
-  pub size : ∣ x .count ∣ ≡ P (x .count)
-  pub some : 1 ≤ P (x .count)
-  pub cap : P (x .count) ≤ 1024
-  pub room : at + P (x .count) ≤ 4096
+  pub count : x .count ≡ pos (posPart (x .count))
+  pub size : ∣ x .count ∣ ≡ posPart (x .count)
+  pub some : 1 ≤ posPart (x .count)
+  pub cap : posPart (x .count) ≤ 1024
+  pub room : at + posPart (x .count) ≤ 4096
   pub offset : ∣ x .offset ∣ ≤ 9_000_000_000_000_000
   pub rate : ∣ x .rate ∣ ≤ 20_000_000_000_000_000
-  pub predictions : (j : ℕ) → j < P (x .count) → ∣ predicted x (pos j) ∣ ≤ 131_000_000_000
-  pub reached : (j : ℕ) → j < P (x .count) → ∣ x .offset +ℤ x .rate *ℤ pos j ∣ ≤ reach
+  pub predictions : (j : ℕ) → j < posPart (x .count) → ∣ predicted x (pos j) ∣ ≤ 131_000_000_000
+  pub reached : (j : ℕ) → j < posPart (x .count) → ∣ x .offset +ℤ x .rate *ℤ pos j ∣ ≤ reach
 
-above-zero : (c : ℤ) → leZ (pos 1) c ≡ true → c ≡ pos (P c)
+above-zero : (c : ℤ) → leZ (pos 1) c ≡ true → c ≡ pos (posPart c)
 above-zero (pos n) h = refl
 above-zero (negsuc n) h = no-ft h
 
@@ -77,9 +77,9 @@ good at x h =
     let e = and-true (leZ (pos at) (x .first)) (leZ (x .first) (pos at)) (f .0) in
     let l = and-true (leZ (pos 1) (x .count)) (leZ (x .count) (pos 1024)) (p .1) in
     let r = and-true (leb ∣ x .offset ∣ 9_000_000_000_000_000) (leb ∣ x .rate ∣ 20_000_000_000_000_000) (b .1) in
-    let q : (j : ℕ) → j < P (x .count) → leb ∣ predicted x (pos j) ∣ 131_000_000_000 ≡ true = λ j k. below-each (P (x .count)) j (λ i. leb ∣ predicted x (pos i) ∣ 131_000_000_000) k (a .1) in
+    let q : (j : ℕ) → j < posPart (x .count) → leb ∣ predicted x (pos j) ∣ 131_000_000_000 ≡ true = λ j k. below-each (posPart (x .count)) j (λ i. leb ∣ predicted x (pos i) ∣ 131_000_000_000) k (a .1) in
     let c = above-zero (x .count) (l .0) in
-    let n : N (x .count) ≡ 0 = ap N c in record {
+    let n : negPart (x .count) ≡ 0 = ap negPart c in record {
       first = ⇒eq (x .first) (pos at) (omega (arith, leZ-true (pos at) (x .first) (e .0), leZ-true (x .first) (pos at) (e .1)));
       count = c;
       size = omega arith;
@@ -93,16 +93,16 @@ good at x h =
     }
 
 -- a sound track: its first segment, and the rest
-pub sound-head : (at : ℕ) (x : Lent) (xs : List Lent) → soundFrom at (x ∷ xs) ≡ true → (segmentOk at x ≡ true) × (soundFrom (at + P (x .count)) xs ≡ true)
+pub sound-head : (at : ℕ) (x : Lent) (xs : List Lent) → soundFrom at (x ∷ xs) ≡ true → (segmentOk at x ≡ true) × (soundFrom (at + posPart (x .count)) xs ≡ true)
 unfolding soundFrom
-sound-head at x xs h = and-true (segmentOk at x) (soundFrom (at + P (x .count)) xs) h
+sound-head at x xs h = and-true (segmentOk at x) (soundFrom (at + posPart (x .count)) xs) h
 
 -- whether a good segment covers a sample that is not before it
 module _ (at : ℕ) (x : Lent) (g : Good at x) (xs : List Lent) (k : ℕ) (from : at ≤ k) where
-  ends : P (x .first +ℤ x .count) ≡ N (x .first +ℤ x .count) + (at + P (x .count))
-  ends = omega (arith, bal (⟨ x .first ⟩ ⊕ ⟨ x .count ⟩), ap P (g .first), ap N (g .first), ap N (g .count))
+  ends : posPart (x .first +ℤ x .count) ≡ negPart (x .first +ℤ x .count) + (at + posPart (x .count))
+  ends = omega (arith, bal (⟨ x .first ⟩ ⊕ ⟨ x .count ⟩), ap posPart (g .first), ap negPart (g .first), ap negPart (g .count))
 
-  pub covered : k < at + P (x .count) → answerAt (x ∷ xs) k ≡ record { refusal = pos 0; value = predicted x (pos (k - at)) }
+  pub covered : k < at + posPart (x .count) → answerAt (x ∷ xs) k ≡ record { refusal = pos 0; value = predicted x (pos (k - at)) }
   unfolding answerAt
   covered h = ap (λ (b : Bool). cond b (record { refusal = pos 0; value = predicted x (pos k -ℤ x .first) }) (answerAt xs k)) yes-covers
       ∙ (λ i. record { refusal = pos 0; value = predicted x (place i) })
@@ -123,7 +123,7 @@ module _ (at : ℕ) (x : Lent) (g : Good at x) (xs : List Lent) (k : ℕ) (from 
       yes-covers : covers x k ≡ true
       yes-covers = ap₂ (λ (a b : Bool). a && b) begins stops
 
-  pub passed : at + P (x .count) ≤ k → answerAt (x ∷ xs) k ≡ answerAt xs k
+  pub passed : at + posPart (x .count) ≤ k → answerAt (x ∷ xs) k ≡ answerAt xs k
   unfolding answerAt
   passed h = ap (λ (b : Bool). cond b (record { refusal = pos 0; value = predicted x (pos k -ℤ x .first) }) (answerAt xs k)) no-covers
     where

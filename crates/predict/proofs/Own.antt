@@ -10,7 +10,7 @@ use lib.Dec.{leb}
 use lib.ListN.{length}
 use lib.IntN.{ℤ, pos, _+ℤ_, _-ℤ_, _*ℤ_}
 use lib.Signed.{_≤ℤ_}
-use Rattle.whole.specs.Whole.{P, N, ∣_∣, R}
+use Rattle.whole.specs.Whole.{posPart, negPart, ∣_∣, R}
 use Rattle.whole.proofs.Linear.{le⇒, abs-sub, size-to, size-from}
 use Rattle.whole.proofs.Quote.{⟨_⟩, #, _⊕_, _⊝_, _⊗_, bal, by≡, by≤}
 use Rattle.whole.proofs.Rounding.{R-mono, R-mul}
@@ -31,12 +31,12 @@ use Rattle.predict.proofs.Numbers.{Good, good, covered, passed}
 
 -- a number z that is within 65,536·t of 65,536·v
 module _ (z v : ℤ) (t : ℕ) (h : ∣ z -ℤ pos 65536 *ℤ v ∣ ≤ 65536 * t) where
-  sides : (P z + 65536 * N v ≤ N z + 65536 * P v + 65536 * t) × (N z + 65536 * P v ≤ P z + 65536 * N v + 65536 * t)
-  sides = size-from (z -ℤ pos 65536 *ℤ v) (P z + 65536 * N v) (N z + 65536 * P v) (65536 * t) (omega (arith, bal (⟨ z ⟩ ⊝ # 65536 ⊗ ⟨ v ⟩))) h
+  sides : (posPart z + 65536 * negPart v ≤ negPart z + 65536 * posPart v + 65536 * t) × (negPart z + 65536 * posPart v ≤ posPart z + 65536 * negPart v + 65536 * t)
+  sides = size-from (z -ℤ pos 65536 *ℤ v) (posPart z + 65536 * negPart v) (negPart z + 65536 * posPart v) (65536 * t) (omega (arith, bal (⟨ z ⟩ ⊝ # 65536 ⊗ ⟨ v ⟩))) h
 
   -- it rounds to a number within t of v
   pub rounds-near : ∣ R z 65536 -ℤ v ∣ ≤ t
-  rounds-near = size-to (R z 65536 -ℤ v) (P (R z 65536) + N v) (N (R z 65536) + P v) t (omega (arith, bal (⟨ R z 65536 ⟩ ⊝ ⟨ v ⟩)))
+  rounds-near = size-to (R z 65536 -ℤ v) (posPart (R z 65536) + negPart v) (negPart (R z 65536) + posPart v) t (omega (arith, bal (⟨ R z 65536 ⟩ ⊝ ⟨ v ⟩)))
       (omega (arith, le⇒ (R z 65536) (v +ℤ pos t) below, bal (⟨ v ⟩ ⊕ # t))) (omega (arith, le⇒ (v -ℤ pos t) (R z 65536) above, bal (⟨ v ⟩ ⊝ # t)))
     where
       below : R z 65536 ≤ℤ (v +ℤ pos t)
@@ -48,8 +48,8 @@ module _ (z v : ℤ) (t : ℕ) (h : ∣ z -ℤ pos 65536 *ℤ v ∣ ≤ 65536 * 
           (R-mono ((v -ℤ pos t) *ℤ pos 65536) z 65536 (omega arith) (by≤ ((⟨ v ⟩ ⊝ # t) ⊗ # 65536) ⟨ z ⟩ (omega (arith, sides))))
 
   near-size : ∣ v ∣ ≤ 130_000_000_000 → t ≤ 1_000_000 → ∣ z ∣ ≤ 8_519_745_536_000_000
-  near-size l k = let a = size-from v (P v) (N v) 130_000_000_000 (omega arith) l in
-      size-to z (P z) (N z) 8_519_745_536_000_000 (omega arith) (omega (arith, sides)) (omega (arith, sides))
+  near-size l k = let a = size-from v (posPart v) (negPart v) 130_000_000_000 (omega arith) l in
+      size-to z (posPart z) (negPart z) 8_519_745_536_000_000 (omega arith) (omega (arith, sides)) (omega (arith, sides))
 
 module _ (s : List ℤ) (t : ℕ) (small : Small s) (tol : t ≤ 1_000_000) where
   -- each prediction of a segment that fits is within the tolerance of its sample
@@ -137,11 +137,11 @@ module _ (s : List ℤ) (t : ℕ) (small : Small s) (tol : t ≤ 1_000_000) wher
 -- THE LAWS of our own track, of samples and a tolerance in range
 module _ (s : List ℤ) (t : ℤ) (h : inRange s t ≡ true) where
   -- it is always well-formed for `predict`
-  pub own-sound : soundFrom 0 (lentOf (flat (trackOf s (P t)))) ≡ true
-  own-sound = let g = ranged s t h in ruled-sound s (P t) (g .small) (g .tol) (g .few) (trackOf-ruled s (P t) (g .small) (g .tol))
+  pub own-sound : soundFrom 0 (lentOf (flat (trackOf s (posPart t)))) ≡ true
+  own-sound = let g = ranged s t h in ruled-sound s (posPart t) (g .small) (g .tol) (g .few) (trackOf-ruled s (posPart t) (g .small) (g .tol))
 
   -- and predicts every sample, within the tolerance
   pub own-near : (k : ℕ) → k < length s
-      → (predictOutcome (flat (trackOf s (P t))) k .refusal ≡ pos 0) × (∣ predictOutcome (flat (trackOf s (P t))) k .value -ℤ sample s k ∣ ≤ P t)
+      → (predictOutcome (flat (trackOf s (posPart t))) k .refusal ≡ pos 0) × (∣ predictOutcome (flat (trackOf s (posPart t))) k .value -ℤ sample s k ∣ ≤ posPart t)
   unfolding predictOutcome
-  own-near k l = let g = ranged s t h in rw own-sound (ruled-near s (P t) (g .small) (g .tol) (g .few) (trackOf-ruled s (P t) (g .small) (g .tol)) k (omega arith) l)
+  own-near k l = let g = ranged s t h in rw own-sound (ruled-near s (posPart t) (g .small) (g .tol) (g .few) (trackOf-ruled s (posPart t) (g .small) (g .tol)) k (omega arith) l)

@@ -9,8 +9,8 @@ use borrow.Author.Tests.{le-leb, lt-leb, leb-true}
 use lib.Dec.{leb}
 use lib.IntN.{ℤ, pos, negsuc, _+ℤ_, _-ℤ_, _*ℤ_, *ℤ-zero, +ℤ-idr}
 use lib.Signed.{leZ}
-use Rattle.whole.specs.Whole.{P, N, ∣_∣, R, near}
-use Rattle.whole.proofs.Linear.{P-neg, N-neg, no-ft, size-to, size-from}
+use Rattle.whole.specs.Whole.{posPart, negPart, ∣_∣, R, near}
+use Rattle.whole.proofs.Linear.{posPart-neg, negPart-neg, no-ft, size-to, size-from}
 use Rattle.whole.proofs.Quote.{⟨_⟩, #, _⊕_, _⊝_, _⊗_, bal, by≡}
 use Rattle.fit.proofs.Tests.{lt-or}
 use Rattle.whole.specs.Each.{allBelow}
@@ -21,18 +21,18 @@ use Rattle.predict.specs.Ends.{reach, endsOk}
 -- what is between two ends of a line
 pub between-ends : (A r : ℤ) (k m j : ℕ) → ∣ A ∣ ≤ k → ∣ A +ℤ r *ℤ pos m ∣ ≤ k → j ≤ m → ∣ A +ℤ r *ℤ pos j ∣ ≤ k
 between-ends A (pos p) k m j h l i =
-    let a = size-from A (P A) (N A) k (omega arith) h in
-    let b = size-from (A +ℤ pos p *ℤ pos m) (P A + p * m) (N A) k (omega (arith, bal (⟨ A ⟩ ⊕ # p ⊗ # m))) l in
-    size-to (A +ℤ pos p *ℤ pos j) (P A + p * j) (N A) k (omega (arith, bal (⟨ A ⟩ ⊕ # p ⊗ # j))) (omega (arith, mul-le-mul-left {m = j} {n = m} p i)) (omega arith)
+    let a = size-from A (posPart A) (negPart A) k (omega arith) h in
+    let b = size-from (A +ℤ pos p *ℤ pos m) (posPart A + p * m) (negPart A) k (omega (arith, bal (⟨ A ⟩ ⊕ # p ⊗ # m))) l in
+    size-to (A +ℤ pos p *ℤ pos j) (posPart A + p * j) (negPart A) k (omega (arith, bal (⟨ A ⟩ ⊕ # p ⊗ # j))) (omega (arith, mul-le-mul-left {m = j} {n = m} p i)) (omega arith)
 between-ends A (negsuc p) k m j h l i =
-    let a = size-from A (P A) (N A) k (omega arith) h in
-    let b = size-from (A +ℤ negsuc p *ℤ pos m) (P A) (N A + suc p * m) k (omega (arith, bal (⟨ A ⟩ ⊕ ⟨ negsuc p ⟩ ⊗ # m))) l in
-    size-to (A +ℤ negsuc p *ℤ pos j) (P A) (N A + suc p * j) k (omega (arith, bal (⟨ A ⟩ ⊕ ⟨ negsuc p ⟩ ⊗ # j))) (omega arith) (omega (arith, mul-le-mul-left {m = j} {n = m} (suc p) i))
+    let a = size-from A (posPart A) (negPart A) k (omega arith) h in
+    let b = size-from (A +ℤ negsuc p *ℤ pos m) (posPart A) (negPart A + suc p * m) k (omega (arith, bal (⟨ A ⟩ ⊕ ⟨ negsuc p ⟩ ⊗ # m))) l in
+    size-to (A +ℤ negsuc p *ℤ pos j) (posPart A) (negPart A + suc p * j) k (omega (arith, bal (⟨ A ⟩ ⊕ ⟨ negsuc p ⟩ ⊗ # j))) (omega arith) (omega (arith, mul-le-mul-left {m = j} {n = m} (suc p) i))
 
 -- what rounds to at most 131,000,000,000 in size
 round-size : (z : ℤ) → ∣ R z 65536 ∣ ≡ near ∣ z ∣ 65536
 round-size (pos a) = omega arith
-round-size (negsuc a) = omega (arith, P-neg (pos (near (suc a) 65536)), N-neg (pos (near (suc a) 65536)))
+round-size (negsuc a) = omega (arith, posPart-neg (pos (near (suc a) 65536)), negPart-neg (pos (near (suc a) 65536)))
 
 pub round-reach : (z : ℤ) → leb ∣ R z 65536 ∣ 131_000_000_000 ≡ leb ∣ z ∣ reach
 round-reach z = ⊎-elim
@@ -73,7 +73,7 @@ pub ends-enough : (x : Lent) → lengthOk x ≡ true → predictionsOk x ≡ end
 unfolding predictionsOk
 ends-enough x h = by-count (x .count) h
   where
-    by-count : (c : ℤ) → (leZ (pos 1) c && leZ c (pos 1024)) ≡ true → allBelow (P c) (λ j. leb ∣ predicted x (pos j) ∣ 131_000_000_000) ≡ endsOk (x .offset) (x .rate) c
+    by-count : (c : ℤ) → (leZ (pos 1) c && leZ c (pos 1024)) ≡ true → allBelow (posPart c) (λ j. leb ∣ predicted x (pos j) ∣ 131_000_000_000) ≡ endsOk (x .offset) (x .rate) c
     by-count (pos zero) k = no-ft k
     by-count (pos (suc m)) k = ends (x .offset) (x .rate) m (leb ∣ x .offset ∣ reach) (leb ∣ x .offset +ℤ x .rate *ℤ (pos (suc m) -ℤ pos 1) ∣ reach) refl refl
     by-count (negsuc n) k = no-ft k

@@ -6,7 +6,7 @@ use mathlib.Core.List.{List, [], _∷_}
 use lib.Dec.{leb}
 use lib.IntN.{ℤ, pos, _+ℤ_, _-ℤ_, _*ℤ_}
 use lib.Signed.{leZ, ltZ}
-use Rattle.whole.specs.Whole.{P, ∣_∣, R}
+use Rattle.whole.specs.Whole.{posPart, ∣_∣, R}
 use Rattle.whole.specs.Each.{allBelow}
 use Rattle.whole.specs.declared.Number.{Number}
 use Rattle.whole.specs.Ranges.{within}
@@ -47,7 +47,7 @@ rangeOk x = leb ∣ x .offset ∣ 9_000_000_000_000_000 && leb ∣ x .rate ∣ 2
 
 -- predictions: "the prediction at any of its samples beyond ±131,000,000,000"
 unfoldable pub predictionsOk : Lent → Bool
-predictionsOk x = allBelow (P (x .count)) (λ j. leb ∣ predicted x (pos j) ∣ 131_000_000_000)
+predictionsOk x = allBelow (posPart (x .count)) (λ j. leb ∣ predicted x (pos j) ∣ 131_000_000_000)
 
 unfoldable pub segmentOk : ℕ → Lent → Bool
 segmentOk at x = placeOk at x && lengthOk x && rangeOk x && predictionsOk x
@@ -55,7 +55,7 @@ segmentOk at x = placeOk at x && lengthOk x && rangeOk x && predictionsOk x
 -- no segment is malformed, from the one that `at` samples stand before
 unfoldable pub soundFrom : ℕ → List Lent → Bool
 soundFrom at [] = true
-soundFrom at (x ∷ xs) = segmentOk at x && soundFrom (at + P (x .count)) xs
+soundFrom at (x ∷ xs) = segmentOk at x && soundFrom (at + posPart (x .count)) xs
 
 -- ---- the answers
 

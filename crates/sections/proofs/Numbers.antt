@@ -9,22 +9,22 @@ use lib.Dec.{T, leb, ltb, eqb}
 use borrow.Author.Tests.{ne-eqb}
 use mir.Syntax.{w64}
 use mir.Val.{SFits}
-use Rattle.whole.specs.Whole.{P, N, ∣_∣}
-use Rattle.whole.proofs.Linear.{zarith, add-law, sub-lawℤ, leZ-true, leZ-false, ltZ-true, ltZ-false, ⇒leZ, ⇒ltZ, ⇒eq, fits-P, fits-N, ⇒sfits, and-true, no-ft}
+use Rattle.whole.specs.Whole.{posPart, negPart, ∣_∣}
+use Rattle.whole.proofs.Linear.{zarith, add-law, sub-lawℤ, leZ-true, leZ-false, ltZ-true, ltZ-false, ⇒leZ, ⇒ltZ, ⇒eq, fits-posPart, fits-negPart, ⇒sfits, and-true, no-ft}
 use Rattle.sections.specs.File.{eqZ, steps}
 use Rattle.whole.proofs.Tests.{is-true, and-yes, same-test}
 
-pub le-yes : (a b : ℤ) → P a + N b ≤ P b + N a → leZ a b ≡ true
+pub le-yes : (a b : ℤ) → posPart a + negPart b ≤ posPart b + negPart a → leZ a b ≡ true
 le-yes a b h = is-true (leZ a b) (⇒leZ a b h)
 
 le-no′ : (t : Bool) → (t ≡ true → ⊥) → t ≡ false
 le-no′ true h = absurd (h refl)
 le-no′ false h = refl
 
-pub le-no : (a b : ℤ) → P b + N a < P a + N b → leZ a b ≡ false
+pub le-no : (a b : ℤ) → posPart b + negPart a < posPart a + negPart b → leZ a b ≡ false
 le-no a b h = le-no′ (leZ a b) (λ e. let k = leZ-true a b e in omega arith)
 
-pub lt-yes : (a b : ℤ) → P a + N b < P b + N a → ltZ a b ≡ true
+pub lt-yes : (a b : ℤ) → posPart a + negPart b < posPart b + negPart a → ltZ a b ≡ true
 lt-yes a b h = is-true (ltZ a b) (⇒ltZ a b h)
 
 pub eqZ-true : (a b : ℤ) → eqZ a b ≡ true → a ≡ b
@@ -51,8 +51,8 @@ module _ (a b : ℤ) where
     next-fits f g =
         let x = leZ-false b a h in
         let y = sub-lawℤ b (pos 1) in
-        let u = fits-P b g in
-        let v = fits-N a f in
+        let u = fits-posPart b g in
+        let v = fits-negPart a f in
         ⇒sfits (b -ℤ pos 1) (omega arith) (omega arith)
 
     pub next-is : leZ (b -ℤ pos 1) a ≡ eqZ b (a +ℤ pos 1)

@@ -1,12 +1,12 @@
 -- What the code holds and what its inner functions give, said of bytes and plain numbers; laws show it to be what the file's definitions say.
 use Prim.Native.Nat.{ℕ, _+_, _*_}
-use mathlib.Core.Bool.{Bool, not, _&&_, cond}
+use mathlib.Core.Bool.{Bool, not, cond}
 use mathlib.Core.List.{List, _++_, map}
 use lib.ListN.{length, getD, take, replicate}
 use lib.IntN.{ℤ, pos}
-use lib.Signed.{leZ}
 use lib.Dec.{eqb}
 use Rattle.whole.specs.Each.{allBelow}
+use Rattle.whole.specs.Ranges.{within}
 use Rattle.sections.specs.Words.{numberAt}
 use Rattle.sections.specs.declared.layouts.Shape.{Shape}
 use Rattle.sections.specs.Layouts.{Range, Layout}
@@ -33,7 +33,7 @@ shapeOf l =
 
 -- number k from byte at on lies between the k-th of low and the k-th of high
 abbrev pub insideBy : List ℕ → ℕ → List ℤ → List ℤ → ℕ → Bool
-insideBy s at low high k = leZ (getD low k (pos 0)) (numberAt s (at + 8 * k)) && leZ (numberAt s (at + 8 * k)) (getD high k (pos 0))
+insideBy s at low high k = within (getD low k (pos 0)) (getD high k (pos 0)) (numberAt s (at + 8 * k))
 
 -- so do all of record i, of records of size numbers from byte at on
 abbrev pub recordBy : List ℕ → ℕ → ℕ → List ℤ → List ℤ → ℕ → Bool

@@ -1,31 +1,22 @@
 // The ranges of the fields: the first field, record and place that is wrong.
 ghost use mathlib.Core.Path.{_≡_};
-ghost use mathlib.Core.Bool.{true, _&&_};
+ghost use mathlib.Core.Bool.{true};
 ghost use Prim.Native.Nat.{_+_, _*_, _<_, _≤_};
 ghost use lib.ListN.{length};
-ghost use lib.Signed.{leZ};
 ghost use Rattle.whole.specs.Each.{firstNot};
 ghost use Rattle.sections.specs.Code.{insideBy, recordBy};
 ghost use Rattle.sections.specs.File.{contentsRight, countOf, sizeOf, fieldRight, recordRight, sectionRight};
 use crate::contents::layout_of;
 use crate::words::number_at;
 use crate::words::word_at;
-
-pub fn inside(low: i64, high: i64, z: i64) -> bool
-    ensures { λ r. ⌜ r ≡ leZ low z && leZ z high ⌝ }
-{
-    if low <= z {
-        return z <= high;
-    }
-    false
-}
+use whole::sign::in_range;
 
 // Whether number k from byte at on is in its range.
 fn number_inside(s: &[u8], at: usize, low: &[i64; 8], high: &[i64; 8], k: usize) -> bool
     requires { ⌜ (at + 8 * k + 8 ≤ length (now s)) × (k < 8) ⌝ }
     ensures { λ r. ⌜ r ≡ insideBy (now (s .entry)) at (now (low .entry)) (now (high .entry)) k ⌝ }
 {
-    inside(low[k], high[k], number_at(s, at + 8 * k))
+    in_range(number_at(s, at + 8 * k), low[k], high[k])
 }
 
 // The first of size numbers from byte at on that is out of its range, or size.

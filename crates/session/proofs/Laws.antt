@@ -15,8 +15,8 @@ use lib.Dec.{eqb, ltb}
 use mir.Syntax.{w64}
 use mir.Val.{SFits}
 use borrow.Author.Tests.{lt-ltb, le-ltb, ltb-true, eqb-true, eq-eqb}
-use Rattle.whole.specs.Whole.{P, N, ∣_∣}
-use Rattle.whole.proofs.Linear.{add-law, ltZ-true, leZ-true, ⇒eq, eq⇒, P-neg, N-neg, and-true, no-ft}
+use Rattle.whole.specs.Whole.{posPart, negPart, ∣_∣}
+use Rattle.whole.proofs.Linear.{add-law, ltZ-true, leZ-true, ⇒eq, eq⇒, posPart-neg, negPart-neg, and-true, no-ft}
 use Rattle.whole.specs.Each.{allBelow, firstNot, implies}
 use Rattle.sections.specs.Layouts.{Range, range, eitherSide, Layout, station, source, orientation, pass, rising, consecutive}
 use Rattle.sections.specs.File.{refusalOf, countOf, sizeOf, layoutOf, rangeOf, fieldAt, inside, eqZ, rangesRight, sectionRight, recordRight, fieldRight, steps, stepRight, orderRight}
@@ -53,7 +53,7 @@ pub either-abs : (k : ℕ) (z : ℤ) → inside (eitherSide k) z ≡ true → �
 either-abs k (pos n) h = let x = leZ-true (pos n) (pos k) (and-true (leZ (negℤ (pos k)) (pos n)) _ h .1) in omega arith
 either-abs k (negsuc n) h =
     let x = leZ-true (negℤ (pos k)) (negsuc n) (and-true (leZ (negℤ (pos k)) (negsuc n)) _ h .0) in
-    omega (arith, P-neg (pos k), N-neg (pos k))
+    omega (arith, posPart-neg (pos k), negPart-neg (pos k))
 
 -- ---- each field of an accepted record is in its range
 
@@ -144,7 +144,7 @@ module _ (s : List ℕ) (h : refusalOf s ≡ 0) (i : ℕ) where
 -- ---- numbers in order
 
 rises : (f : ℕ → ℤ) (n : ℕ) → ((i : ℕ) → i + 1 < n → ltZ (f i) (f (i + 1)) ≡ true) → (i d : ℕ) → i + suc d < n
-    → P (f i) + N (f (i + suc d)) < P (f (i + suc d)) + N (f i)
+    → posPart (f i) + negPart (f (i + suc d)) < posPart (f (i + suc d)) + negPart (f i)
 rises f n h i zero l =
     let e : i + 1 ≡ i + suc zero = omega arith in
     rw e at (ltZ-true (f i) (f (i + 1)) (h i (omega arith)))
@@ -174,13 +174,13 @@ ordered s o p h l e i m =
 
 module _ (s : List ℕ) (h : refusalOf s ≡ 0) where
   -- the ids of stations and of sources rise
-  pub station-ids : (i d : ℕ) → i + suc d < countOf s 0 → P (fieldAt s 0 i 0) + N (fieldAt s 0 (i + suc d) 0) < P (fieldAt s 0 (i + suc d) 0) + N (fieldAt s 0 i 0)
+  pub station-ids : (i d : ℕ) → i + suc d < countOf s 0 → posPart (fieldAt s 0 i 0) + negPart (fieldAt s 0 (i + suc d) 0) < posPart (fieldAt s 0 (i + suc d) 0) + negPart (fieldAt s 0 i 0)
   unfolding station
   station-ids =
       rises (λ (i : ℕ). fieldAt s 0 i 0) (countOf s 0)
       (λ i l. sym (steps-rising _ _) ∙ ordered s rising 0 (accepted-ids s h) (omega arith) (ap (λ (x : Layout). x .order) (layout-first s h)) i l)
 
-  pub source-ids : (i d : ℕ) → i + suc d < countOf s 1 → P (fieldAt s 1 i 0) + N (fieldAt s 1 (i + suc d) 0) < P (fieldAt s 1 (i + suc d) 0) + N (fieldAt s 1 i 0)
+  pub source-ids : (i d : ℕ) → i + suc d < countOf s 1 → posPart (fieldAt s 1 i 0) + negPart (fieldAt s 1 (i + suc d) 0) < posPart (fieldAt s 1 (i + suc d) 0) + negPart (fieldAt s 1 i 0)
   unfolding source
   source-ids =
       rises (λ (i : ℕ). fieldAt s 1 i 0) (countOf s 1)

@@ -9,8 +9,8 @@ use lib.Dec.{T}
 use mir.Syntax.{w64}
 use mir.Val.{SFits, Fits, toZ, ofZ}
 use mir.Facts.{toZ-ofZ}
-use Rattle.whole.specs.Whole.{P, N}
-use Rattle.whole.proofs.Linear.{ltZ-false, sub-lawℤ, add-law, ⇒eq, fits-P}
+use Rattle.whole.specs.Whole.{posPart, negPart}
+use Rattle.whole.proofs.Linear.{ltZ-false, sub-lawℤ, add-law, ⇒eq, fits-posPart}
 
 -- z is `far` past a
 pub record Past (z a : ℤ) : Type 0 where
@@ -26,7 +26,7 @@ past (pos n) m f h =
       far = n - m;
       is = ⇒eq (pos n -ℤ pos m) (pos (n - m)) (omega (arith, sub-lawℤ (pos n) (pos m)));
       plus = ⇒eq (pos n) (pos m +ℤ pos (n - m)) (omega (arith, add-law (pos m) (pos (n - m))));
-      small = omega (arith, fits-P (pos n) f);
+      small = omega (arith, fits-posPart (pos n) f);
     }
 past (negsuc n) m f h = let l = ltZ-false (negsuc n) (pos m) h in absurd (omega arith)
 

@@ -5,13 +5,13 @@ use native.Mathlib.Omega.{arith}
 use native.Mathlib.Decide.{decLt}
 use mathlib.Core.List.{List}
 use lib.IntN.{ℤ, pos, _+ℤ_}
-use Rattle.whole.specs.Whole.{P, N}
+use Rattle.whole.specs.Whole.{posPart, negPart}
 use Rattle.whole.proofs.Linear.{add-law, eq⇒}
 use Rattle.sections.specs.File.{refusalOf, countOf, fieldAt}
 use Rattle.session.proofs.Laws.{station-ids, source-ids, day-plus}
 
 -- numbers that rise
-module _ (f : ℕ → ℤ) (n : ℕ) (rise : (i d : ℕ) → i + suc d < n → P (f i) + N (f (i + suc d)) < P (f (i + suc d)) + N (f i)) where
+module _ (f : ℕ → ℤ) (n : ℕ) (rise : (i d : ℕ) → i + suc d < n → posPart (f i) + negPart (f (i + suc d)) < posPart (f (i + suc d)) + negPart (f i)) where
   never : (i j : ℕ) → i < j → j < n → f i ≡ f j → ⊥
   never i j l m e =
       let k : i + suc (j - i - 1) ≡ j = omega arith in

@@ -13,7 +13,6 @@ use crate::Pass;
 use crate::Source;
 use crate::Station;
 use sections::contents::layout_of;
-use sections::ranges::inside;
 use sections::refusal::count_of;
 use sections::refusal::field_at;
 use sections::refusal::number;
@@ -21,6 +20,7 @@ use sections::refusal::record_byte;
 use sections::refusal::refusal_of;
 use sections::words::number_at;
 use sections::words::word_at;
+use whole::sign::in_range;
 
 pub fn station_of(s: &[u8], i: usize) -> Station
     requires { ⌜ (refusalOf (now s) ≡ 0) × (i < countOf (now s) 0) ⌝ }
@@ -165,7 +165,7 @@ fn number_is(s: &[u8], at: usize, z: i64) -> bool
     ensures { λ r. ⌜ r ≡ eqZ (numberAt (now (s .entry)) at) z ⌝ }
 {
     let a = number_at(s, at);
-    inside(a, a, z)
+    in_range(z, a, a)
 }
 
 // The first of n records of size numbers from byte at on whose first number is z, or n.

@@ -1,4 +1,4 @@
--- The cap at 2^30 changes nothing: the exact sum is at most a little over 1, since its square and that of the cosine's sum make 1 but for small
+-- The cap at 2^30 takes away no more than the distance leaves room for: the exact sum is at most a little over 1, since its square and that of the cosine's sum make 1 but for small
 -- coefficients of high degree. Assumes nothing.
 use mathlib.Core.Path.{_≡_, refl, ap}
 use mathlib.Core.Bool.{Bool, true, false}

@@ -4,7 +4,7 @@ use Prim.Native.Nat.{ℕ, zero, suc, _+_, _*_, _-_, _/_, _%_, _^_, _≤_, _<_}
 use native.Mathlib.Omega.{arith}
 use lib.IntN.{ℤ, pos, negℤ, negℤ-negℤ}
 use Rattle.whole.specs.Whole.{∣_∣}
-use Rattle.whole.proofs.Linear.{P-neg, N-neg}
+use Rattle.whole.proofs.Linear.{posPart-neg, negPart-neg}
 use Rattle.sine.specs.Sine.{stepsOf, sBy, S, quarter, sineOf, cosineOf}
 
 -- ---- any two results that a promise allows are equal
@@ -23,8 +23,8 @@ quarter-size : (q r : ℕ) → ∣ quarter q r ∣ ≤ 2 ^ 30
 unfolding quarter
 quarter-size zero r = omega (arith, S-most r)
 quarter-size (suc zero) r = omega (arith, S-most (2 ^ 30 - r))
-quarter-size (suc (suc zero)) r = omega (arith, S-most r, P-neg (pos (S r)), N-neg (pos (S r)))
-quarter-size (suc (suc (suc q))) r = omega (arith, S-most (2 ^ 30 - r), P-neg (pos (S (2 ^ 30 - r))), N-neg (pos (S (2 ^ 30 - r))))
+quarter-size (suc (suc zero)) r = omega (arith, S-most r, posPart-neg (pos (S r)), negPart-neg (pos (S r)))
+quarter-size (suc (suc (suc q))) r = omega (arith, S-most (2 ^ 30 - r), posPart-neg (pos (S (2 ^ 30 - r))), negPart-neg (pos (S (2 ^ 30 - r))))
 
 pub sine-size : (a : ℕ) → ∣ sineOf a ∣ ≤ 2 ^ 30
 unfolding sineOf

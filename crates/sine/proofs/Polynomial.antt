@@ -6,7 +6,7 @@ use native.Mathlib.Omega.{arith}
 use native.Mathlib.Nat.{mul-le-mul-right}
 use lib.IntN.{ℤ, pos, negsuc, negℤ, _+ℤ_, _*ℤ_}
 use lib.Signed.{_≤ℤ_}
-use Rattle.whole.specs.Whole.{P}
+use Rattle.whole.specs.Whole.{posPart}
 use Rattle.whole.proofs.Linear.{zarith, mul-mono}
 use Rattle.whole.proofs.Quote.{⟨_⟩, #, _⊕_, _⊗_, ⊖, by≡, by≤}
 
@@ -70,14 +70,14 @@ eval-snoc (a ∷ p) c x =
 -- an upper bound on [0, m]: the coefficients that are positive, at m
 abbrev pub pup : List ℤ → ℕ → ℕ
 pup [] m = 0
-pup (c ∷ p) m = P c + m * pup p m
+pup (c ∷ p) m = posPart c + m * pup p m
 
 pub eval-up : (p : List ℤ) (w m : ℕ) → w ≤ m → peval p (pos w) ≤ℤ pos (pup p m)
 eval-up [] w m h = omega zarith
 eval-up (c ∷ p) w m h =
     let k : (pos w *ℤ peval p (pos w)) ≤ℤ pos (w * pup p m) = mul-mono (pos w) (peval p (pos w)) (pos (pup p m)) (omega zarith) (eval-up p w m h) in
     let l = mul-le-mul-right (pup p m) h in
-    by≤ (⟨ c ⟩ ⊕ ⟨ pos w *ℤ peval p (pos w) ⟩) (# (P c + m * pup p m)) (omega zarith)
+    by≤ (⟨ c ⟩ ⊕ ⟨ pos w *ℤ peval p (pos w) ⟩) (# (posPart c + m * pup p m)) (omega zarith)
 
 -- a square is not negative
 pub sq-nonneg : (x : ℤ) → pos 0 ≤ℤ (x *ℤ x)

@@ -10,7 +10,7 @@ use lib.Dec.{leb}
 use lib.ListN.{length, List·getD-eq-default}
 use lib.IntN.{ℤ, pos, negsuc}
 use lib.Signed.{leZ, ltZ}
-use Rattle.whole.specs.Whole.{P, N, ∣_∣}
+use Rattle.whole.specs.Whole.{posPart, negPart, ∣_∣}
 use Rattle.whole.proofs.Linear.{and-true, leZ-true, leZ-false, ltZ-true, ltZ-false, no-ft}
 use Rattle.fit.specs.Line.{sample, Small}
 use Rattle.whole.proofs.Each.{below-each}
@@ -52,8 +52,8 @@ pub record Ranged (s : List ℤ) (t : ℤ) : Type 0 where
   pub some : 1 ≤ length s
   pub few : length s ≤ 4096
   pub small : Small s
-  pub from : N t ≡ 0
-  pub tol : P t ≤ 1_000_000
+  pub from : negPart t ≡ 0
+  pub tol : posPart t ≤ 1_000_000
 
 pub ranged : (s : List ℤ) (t : ℤ) → inRange s t ≡ true → Ranged s t
 unfolding inRange
@@ -71,10 +71,10 @@ ranged s t h =
       tol = tol t (b .1);
     }
   where
-    from : (t : ℤ) → leZ (pos 0) t ≡ true → N t ≡ 0
+    from : (t : ℤ) → leZ (pos 0) t ≡ true → negPart t ≡ 0
     from (pos n) k = refl
     from (negsuc n) k = no-ft k
 
-    tol : (t : ℤ) → leZ t (pos 1_000_000) ≡ true → P t ≤ 1_000_000
+    tol : (t : ℤ) → leZ t (pos 1_000_000) ≡ true → posPart t ≤ 1_000_000
     tol (pos n) k = leb-true n 1_000_000 k
     tol (negsuc n) k = omega arith

@@ -6,7 +6,7 @@ use lib.Dec.{leb}
 use lib.ListN.{length, drop}
 use lib.IntN.{ℤ, pos}
 use lib.Signed.{leZ}
-use Rattle.whole.specs.Whole.{P, ∣_∣}
+use Rattle.whole.specs.Whole.{posPart, ∣_∣}
 use Rattle.whole.specs.Each.{allBelow}
 use Rattle.fit.specs.Line.{sample}
 use Rattle.whole.specs.declared.Number.{Number}
@@ -38,5 +38,5 @@ written xs room = record { answer = number (pos (length xs)); room = flat xs ++ 
 -- is proved in proofs/Answers.antt.
 unfoldable pub outcome : List ℤ → ℤ → List ℤ → Outcome
 outcome s t room =
-    let xs = trackOf s (P t) in
+    let xs = trackOf s (posPart t) in
     cond (inRange s t) (cond (leb (length xs) (length room / 4)) (written xs room) (refused 8 room)) (refused 2 room)

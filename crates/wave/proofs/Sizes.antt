@@ -5,7 +5,7 @@ use native.Mathlib.Omega.{arith}
 use lib.Dec.{lit≤}
 use lib.IntN.{ℤ, pos, negℤ}
 use Rattle.whole.specs.Whole.{∣_∣, R}
-use Rattle.whole.proofs.Linear.{P-neg, N-neg}
+use Rattle.whole.proofs.Linear.{posPart-neg, negPart-neg}
 use Rattle.whole.proofs.Machine.{lit, var, _⊞_, _⊟_, _⊠_, val, bounded}
 use Rattle.whole.proofs.Rounding.{R-size}
 use Rattle.sine.specs.Sine.{sineOf, cosineOf}
@@ -36,7 +36,7 @@ wave-size : (b : Baseline) (h : ℕ) (d : Turn) → Shifted b → Turned d → �
 unfolding waveOf
 wave-size b h d k t =
     let g = alongSource b h d in
-    let m = var (negℤ g) 38400248228 (omega (arith, along-size b h d k t, P-neg g, N-neg g)) ⊠ lit (pos 1000000000) in
+    let m = var (negℤ g) 38400248228 (omega (arith, along-size b h d k t, posPart-neg g, negPart-neg g)) ⊠ lit (pos 1000000000) in
     R-size (val m) 299792458 130000000000 (omega arith) (le-trans (bounded m) (lit≤ tt))
 
 -- the pole shift is small, and so the baseline stays within its bounds

@@ -4,7 +4,7 @@ use Prim.Native.Nat.{ℕ, _^_}
 use native.Mathlib.Omega.{arith}
 use lib.IntN.{ℤ, pos, negℤ, _+ℤ_, _-ℤ_, _*ℤ_}
 use Rattle.whole.specs.Whole.{R}
-use Rattle.whole.proofs.Linear.{zarith, P-neg, N-neg}
+use Rattle.whole.proofs.Linear.{zarith, posPart-neg, negPart-neg}
 use Rattle.whole.proofs.Quote.{⟨_⟩, #, _⊕_, _⊝_, _⊗_, ⊖, by≡}
 use Rattle.whole.proofs.Rounding.{R-neg}
 use Rattle.session.specs.declared.Station.{Station}
@@ -89,7 +89,7 @@ between-neg p q r e =
 
 -- what is its own negative is 0
 self-neg : (z : ℤ) → z ≡ negℤ z → z ≡ pos 0
-self-neg z e = omega (zarith, P-neg z, N-neg z)
+self-neg z e = omega (zarith, posPart-neg z, negPart-neg z)
 
 pub between-same : (p : Station) (r : Source) (e : Earth) → delayBetween p p r e ≡ pos 0
 between-same p r e = self-neg (delayBetween p p r e) (between-neg p p r e)

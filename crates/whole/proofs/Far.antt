@@ -7,14 +7,14 @@ use Prim.Native.Nat.{ℕ, _+_, _*_, _^_, _≤_, _<_}
 use native.Mathlib.Omega.{arith}
 use lib.IntN.{ℤ, pos, negsuc, _+ℤ_, _-ℤ_, _*ℤ_}
 use lib.Signed.{_≤ℤ_, _<ℤ_, leZ}
-use Rattle.whole.specs.Whole.{P, N, ∣_∣, floorZ, modZ}
+use Rattle.whole.specs.Whole.{posPart, negPart, ∣_∣, floorZ, modZ}
 use Rattle.whole.proofs.Linear.{abs-mul≤, leZ-true, leZ-false, and-true}
 use Rattle.whole.proofs.Quote.{⟨_⟩, #, _⊕_, _⊝_, _⊗_, bal, by≡, of≡}
 use Rattle.whole.proofs.Tests.{and-false}
 use Rattle.whole.proofs.Rounding.{floor-mod, mod-below}
 
 -- a number is no larger than what both its sides are
-size-of : (z : ℤ) (k : ℕ) → P z ≤ N z + k → N z ≤ P z + k → ∣ z ∣ ≤ k
+size-of : (z : ℤ) (k : ℕ) → posPart z ≤ negPart z + k → negPart z ≤ posPart z + k → ∣ z ∣ ≤ k
 size-of (pos n) k h l = omega arith
 size-of (negsuc n) k h l = omega arith
 

@@ -1,4 +1,4 @@
--- ℤ read as two naturals, for `omega`: z is `P z` less `N z`. Each operation has a law that is linear in these, each test of order and each
+-- ℤ read as two naturals, for `omega`: z is `posPart z` less `negPart z`. Each operation has a law that is linear in these, each test of order and each
 -- equation is one statement of them, so a linear goal over ℤ is one `omega` with the laws of the sums that it names in the list.
 use mathlib.Core.Path.{_≡_, refl, sym, ap, _∙_, subst}
 use mathlib.Core.Bool.{Bool, true, false, cond, _&&_}
@@ -10,131 +10,131 @@ use lib.IntN.{ℤ, pos, negsuc, negℤ, natAbs, subℕ, _+ℤ_, _-ℤ_, _*ℤ_}
 use lib.Dec.{T, ltb, leb, ltb→lt, lt→ltb, leb→le, le→leb}
 use lib.Signed.{mag, ltZ, leZ, _≤ℤ_, _<ℤ_, quotZ, remZ}
 use borrow.Author.Tests.{ltb-true, ltb-false, leb-true, leb-false, lt-ltb, le-ltb, le-leb, lt-leb}
-use mir.Syntax.{Width, w32, w64}
+use mir.Syntax.{w64}
 use mir.Val.{SFits, hbits, toZ, ofZ}
 use mir.Facts.{toZ-ofZ}
-use Rattle.whole.specs.Whole.{P, N, ∣_∣}
+use Rattle.whole.specs.Whole.{posPart, negPart, ∣_∣}
 use Rattle.whole.specs.Ranges.{In}
 
-sub-by : (a b : ℕ) (t : Bool) → ltb a b ≡ t → P (cond t (negsuc (b - suc a)) (pos (a - b))) + b ≡ N (cond t (negsuc (b - suc a)) (pos (a - b))) + a
+sub-by : (a b : ℕ) (t : Bool) → ltb a b ≡ t → posPart (cond t (negsuc (b - suc a)) (pos (a - b))) + b ≡ negPart (cond t (negsuc (b - suc a)) (pos (a - b))) + a
 sub-by a b true e = omega (arith, ltb-true a b e)
 sub-by a b false e = omega (arith, ltb-false a b e)
 
-pub sub-law : (a b : ℕ) → P (subℕ a b) + b ≡ N (subℕ a b) + a
+pub sub-law : (a b : ℕ) → posPart (subℕ a b) + b ≡ negPart (subℕ a b) + a
 sub-law a b = sub-by a b (ltb a b) refl
 
 -- (a + b)⁺ + a⁻ + b⁻ = (a + b)⁻ + a⁺ + b⁺
-pub add-law : (a b : ℤ) → P (a +ℤ b) + (N a + N b) ≡ N (a +ℤ b) + (P a + P b)
+pub add-law : (a b : ℤ) → posPart (a +ℤ b) + (negPart a + negPart b) ≡ negPart (a +ℤ b) + (posPart a + posPart b)
 add-law (pos a) (pos b) = omega arith
 add-law (pos a) (negsuc b) = omega (arith, sub-law a (suc b))
 add-law (negsuc a) (pos b) = omega (arith, sub-law b (suc a))
 add-law (negsuc a) (negsuc b) = omega arith
 
-pub P-neg : (a : ℤ) → P (negℤ a) ≡ N a
-P-neg (pos zero) = refl
-P-neg (pos (suc n)) = refl
-P-neg (negsuc n) = refl
+pub posPart-neg : (a : ℤ) → posPart (negℤ a) ≡ negPart a
+posPart-neg (pos zero) = refl
+posPart-neg (pos (suc n)) = refl
+posPart-neg (negsuc n) = refl
 
-pub N-neg : (a : ℤ) → N (negℤ a) ≡ P a
-N-neg (pos zero) = refl
-N-neg (pos (suc n)) = refl
-N-neg (negsuc n) = refl
+pub negPart-neg : (a : ℤ) → negPart (negℤ a) ≡ posPart a
+negPart-neg (pos zero) = refl
+negPart-neg (pos (suc n)) = refl
+negPart-neg (negsuc n) = refl
 
-pub sub-lawℤ : (a b : ℤ) → P (a -ℤ b) + (N a + P b) ≡ N (a -ℤ b) + (P a + N b)
-sub-lawℤ a b = omega (arith, add-law a (negℤ b), P-neg b, N-neg b)
+pub sub-lawℤ : (a b : ℤ) → posPart (a -ℤ b) + (negPart a + posPart b) ≡ negPart (a -ℤ b) + (posPart a + negPart b)
+sub-lawℤ a b = omega (arith, add-law a (negℤ b), posPart-neg b, negPart-neg b)
 
 -- a * b, multiplied out
-pub mul-P : (a b : ℤ) → P (a *ℤ b) ≡ P a * P b + N a * N b
-mul-P (pos a) (pos b) = omega arith
-mul-P (pos a) (negsuc b) = P-neg (pos (a * suc b)) ∙ omega arith
-mul-P (negsuc a) (pos b) = P-neg (pos (suc a * b)) ∙ omega arith
-mul-P (negsuc a) (negsuc b) = omega arith
+pub mul-posPart : (a b : ℤ) → posPart (a *ℤ b) ≡ posPart a * posPart b + negPart a * negPart b
+mul-posPart (pos a) (pos b) = omega arith
+mul-posPart (pos a) (negsuc b) = posPart-neg (pos (a * suc b)) ∙ omega arith
+mul-posPart (negsuc a) (pos b) = posPart-neg (pos (suc a * b)) ∙ omega arith
+mul-posPart (negsuc a) (negsuc b) = omega arith
 
-pub mul-N : (a b : ℤ) → N (a *ℤ b) ≡ P a * N b + N a * P b
-mul-N (pos a) (pos b) = omega arith
-mul-N (pos a) (negsuc b) = N-neg (pos (a * suc b)) ∙ omega arith
-mul-N (negsuc a) (pos b) = N-neg (pos (suc a * b)) ∙ omega arith
-mul-N (negsuc a) (negsuc b) = omega arith
+pub mul-negPart : (a b : ℤ) → negPart (a *ℤ b) ≡ posPart a * negPart b + negPart a * posPart b
+mul-negPart (pos a) (pos b) = omega arith
+mul-negPart (pos a) (negsuc b) = negPart-neg (pos (a * suc b)) ∙ omega arith
+mul-negPart (negsuc a) (pos b) = negPart-neg (pos (suc a * b)) ∙ omega arith
+mul-negPart (negsuc a) (negsuc b) = omega arith
 
 -- ---- equations and orders, one statement each
-pub eq⇒ : (a b : ℤ) → a ≡ b → P a + N b ≡ P b + N a
-eq⇒ a b e = subst (λ (z : ℤ). P a + N z ≡ P z + N a) e refl
+pub eq⇒ : (a b : ℤ) → a ≡ b → posPart a + negPart b ≡ posPart b + negPart a
+eq⇒ a b e = subst (λ (z : ℤ). posPart a + negPart z ≡ posPart z + negPart a) e refl
 
-pub ⇒eq : (a b : ℤ) → P a + N b ≡ P b + N a → a ≡ b
+pub ⇒eq : (a b : ℤ) → posPart a + negPart b ≡ posPart b + negPart a → a ≡ b
 ⇒eq (pos a) (pos b) h = ap pos (omega arith)
 ⇒eq (pos a) (negsuc b) h = absurd (omega arith)
 ⇒eq (negsuc a) (pos b) h = absurd (omega arith)
 ⇒eq (negsuc a) (negsuc b) h = ap negsuc (omega arith)
 
-pub leZ⇒ : (a b : ℤ) → T (leZ a b) → P a + N b ≤ P b + N a
+pub leZ⇒ : (a b : ℤ) → T (leZ a b) → posPart a + negPart b ≤ posPart b + negPart a
 leZ⇒ (pos a) (pos b) t = omega (arith, leb→le a b t)
 leZ⇒ (negsuc a) (pos b) t = omega arith
 leZ⇒ (negsuc a) (negsuc b) t = omega (arith, leb→le b a t)
 
-pub ⇒leZ : (a b : ℤ) → P a + N b ≤ P b + N a → T (leZ a b)
+pub ⇒leZ : (a b : ℤ) → posPart a + negPart b ≤ posPart b + negPart a → T (leZ a b)
 ⇒leZ (pos a) (pos b) h = le→leb a b (omega arith)
 ⇒leZ (pos a) (negsuc b) h = absurd (omega arith)
 ⇒leZ (negsuc a) (pos b) h = tt
 ⇒leZ (negsuc a) (negsuc b) h = le→leb b a (omega arith)
 
-pub le⇒ : (a b : ℤ) → a ≤ℤ b → P a + N b ≤ P b + N a
+pub le⇒ : (a b : ℤ) → a ≤ℤ b → posPart a + negPart b ≤ posPart b + negPart a
 le⇒ a b h = leZ⇒ a b (h .le)
 
-pub ⇒le : (a b : ℤ) → P a + N b ≤ P b + N a → a ≤ℤ b
+pub ⇒le : (a b : ℤ) → posPart a + negPart b ≤ posPart b + negPart a → a ≤ℤ b
 ⇒le a b h = record { le = ⇒leZ a b h }
 
-pub ltZ⇒ : (a b : ℤ) → T (ltZ a b) → P a + N b < P b + N a
+pub ltZ⇒ : (a b : ℤ) → T (ltZ a b) → posPart a + negPart b < posPart b + negPart a
 ltZ⇒ (pos a) (pos b) t = omega (arith, ltb→lt a b t)
 ltZ⇒ (negsuc a) (pos b) t = omega arith
 ltZ⇒ (negsuc a) (negsuc b) t = omega (arith, ltb→lt b a t)
 
-pub ⇒ltZ : (a b : ℤ) → P a + N b < P b + N a → T (ltZ a b)
+pub ⇒ltZ : (a b : ℤ) → posPart a + negPart b < posPart b + negPart a → T (ltZ a b)
 ⇒ltZ (pos a) (pos b) h = lt→ltb a b (omega arith)
 ⇒ltZ (pos a) (negsuc b) h = absurd (omega arith)
 ⇒ltZ (negsuc a) (pos b) h = tt
 ⇒ltZ (negsuc a) (negsuc b) h = lt→ltb b a (omega arith)
 
-pub lt⇒ : (a b : ℤ) → a <ℤ b → P a + N b < P b + N a
+pub lt⇒ : (a b : ℤ) → a <ℤ b → posPart a + negPart b < posPart b + negPart a
 lt⇒ a b h = ltZ⇒ a b (h .lt)
 
-pub ⇒lt : (a b : ℤ) → P a + N b < P b + N a → a <ℤ b
+pub ⇒lt : (a b : ℤ) → posPart a + negPart b < posPart b + negPart a → a <ℤ b
 ⇒lt a b h = record { lt = ⇒ltZ a b h }
 
 -- ---- a width's range
-pub ⇒sfits : (z : ℤ) → P z < 2 ^ 63 + N z → N z ≤ 2 ^ 63 + P z → SFits w64 z
+pub ⇒sfits : (z : ℤ) → posPart z < 2 ^ 63 + negPart z → negPart z ≤ 2 ^ 63 + posPart z → SFits w64 z
 ⇒sfits (pos a) h k = record { sfits = omega arith }
 ⇒sfits (negsuc a) h k = record { sfits = omega arith }
 
 -- with one premise, so that `omega` takes it as a rule for a goal: `mag z` is (z⁺ - z⁻) + (z⁻ - z⁺ - 1)
-pub fits! : (z : ℤ) → (P z - N z) + (N z - P z - 1) < 2 ^ 63 → SFits w64 z
+pub fits! : (z : ℤ) → (posPart z - negPart z) + (negPart z - posPart z - 1) < 2 ^ 63 → SFits w64 z
 fits! (pos a) h = record { sfits = omega arith }
 fits! (negsuc a) h = record { sfits = omega arith }
 
-pub fits-P : (z : ℤ) → SFits w64 z → P z < 2 ^ 63
-fits-P (pos a) f = f .sfits
-fits-P (negsuc a) f = omega arith
+pub fits-posPart : (z : ℤ) → SFits w64 z → posPart z < 2 ^ 63
+fits-posPart (pos a) f = f .sfits
+fits-posPart (negsuc a) f = omega arith
 
-pub fits-N : (z : ℤ) → SFits w64 z → N z ≤ 2 ^ 63
-fits-N (pos a) f = omega arith
-fits-N (negsuc a) f = omega (arith, f .sfits)
+pub fits-negPart : (z : ℤ) → SFits w64 z → negPart z ≤ 2 ^ 63
+fits-negPart (pos a) f = omega arith
+fits-negPart (negsuc a) f = omega (arith, f .sfits)
 
 -- a test's outcome, as a branch leaves it
 T-of : {b : Bool} → b ≡ true → T b
 T-of e = subst T (sym e) tt
 
-pub leZ-true : (a b : ℤ) → leZ a b ≡ true → P a + N b ≤ P b + N a
+pub leZ-true : (a b : ℤ) → leZ a b ≡ true → posPart a + negPart b ≤ posPart b + negPart a
 leZ-true a b e = leZ⇒ a b (T-of e)
 
-pub leZ-false : (a b : ℤ) → leZ a b ≡ false → P b + N a < P a + N b
+pub leZ-false : (a b : ℤ) → leZ a b ≡ false → posPart b + negPart a < posPart a + negPart b
 leZ-false (pos a) (pos b) e = omega (arith, leb-false a b e)
 leZ-false (pos a) (negsuc b) e = omega arith
 leZ-false (negsuc a) (pos b) e = absurd (subst T e tt)
 leZ-false (negsuc a) (negsuc b) e = omega (arith, leb-false b a e)
 
-pub ltZ-true : (a b : ℤ) → ltZ a b ≡ true → P a + N b < P b + N a
+pub ltZ-true : (a b : ℤ) → ltZ a b ≡ true → posPart a + negPart b < posPart b + negPart a
 ltZ-true a b e = ltZ⇒ a b (T-of e)
 
-pub ltZ-false : (a b : ℤ) → ltZ a b ≡ false → P b + N a ≤ P a + N b
+pub ltZ-false : (a b : ℤ) → ltZ a b ≡ false → posPart b + negPart a ≤ posPart a + negPart b
 ltZ-false (pos a) (pos b) e = omega (arith, ltb-false a b e)
 ltZ-false (pos a) (negsuc b) e = omega arith
 ltZ-false (negsuc a) (pos b) e = absurd (subst T e tt)
@@ -142,7 +142,7 @@ ltZ-false (negsuc a) (negsuc b) e = omega (arith, ltb-false b a e)
 
 -- the bound as one statement, for `omega`'s rules, which take one rule for a hypothesis. It is not exact, so that it splits no case: where the
 -- edge of the range matters, list `known f`
-pub fits⇒ : (z : ℤ) → SFits w64 z → P z + N z ≤ 2 ^ 63
+pub fits⇒ : (z : ℤ) → SFits w64 z → posPart z + negPart z ≤ 2 ^ 63
 fits⇒ (pos a) f = omega (arith, f .sfits)
 fits⇒ (negsuc a) f = omega (arith, f .sfits)
 
@@ -159,7 +159,7 @@ pub ruleset zarith = (arith, le⇒, ⇒le, lt⇒, ⇒lt, leZ⇒, ⇒leZ, ltZ⇒,
 -- ---- the machine's division, by a positive number
 pub quot-fits : (x b : ℤ) → pos 1 ≤ℤ b → SFits w64 x → SFits w64 (quotZ x b)
 quot-fits (pos a) (pos b) h f = record { sfits = lt-of-le-of-lt (div-le-self a b) (f .sfits) }
-quot-fits (negsuc a) (pos b) h f = omega (zarith, P-neg (pos (suc a / b)), N-neg (pos (suc a / b)), div-le-self (suc a) b)
+quot-fits (negsuc a) (pos b) h f = omega (zarith, posPart-neg (pos (suc a / b)), negPart-neg (pos (suc a / b)), div-le-self (suc a) b)
 quot-fits x (negsuc b) h f = absurd (h .le)
 
 pub bits-pos : (b : ℤ) → pos 1 ≤ℤ b → 0 < ofZ w64 b
@@ -171,29 +171,29 @@ pub div-ok : (x b : ℤ) → pos 1 ≤ℤ b → SFits w64 x → (0 < ofZ w64 b) 
 div-ok x b h f = (bits-pos b h, quot-fits x b h f)
 
 -- a quotient is no larger
-pub quot-P : (x b : ℤ) → pos 1 ≤ℤ b → P (quotZ x b) ≤ P x
-quot-P (pos a) (pos b) h = div-le-self a b
-quot-P (negsuc a) (pos b) h = omega (arith, P-neg (pos (suc a / b)))
-quot-P x (negsuc b) h = absurd (h .le)
+pub quot-posPart : (x b : ℤ) → pos 1 ≤ℤ b → posPart (quotZ x b) ≤ posPart x
+quot-posPart (pos a) (pos b) h = div-le-self a b
+quot-posPart (negsuc a) (pos b) h = omega (arith, posPart-neg (pos (suc a / b)))
+quot-posPart x (negsuc b) h = absurd (h .le)
 
-pub quot-N : (x b : ℤ) → pos 1 ≤ℤ b → N (quotZ x b) ≤ N x
-quot-N (pos a) (pos b) h = omega arith
-quot-N (negsuc a) (pos b) h = omega (arith, N-neg (pos (suc a / b)), div-le-self (suc a) b)
-quot-N x (negsuc b) h = absurd (h .le)
+pub quot-negPart : (x b : ℤ) → pos 1 ≤ℤ b → negPart (quotZ x b) ≤ negPart x
+quot-negPart (pos a) (pos b) h = omega arith
+quot-negPart (negsuc a) (pos b) h = omega (arith, negPart-neg (pos (suc a / b)), div-le-self (suc a) b)
+quot-negPart x (negsuc b) h = absurd (h .le)
 
 -- z⁺ and z⁻ are the least two naturals whose difference is z
-pub least : (z : ℤ) (u d : ℕ) → P z + d ≡ N z + u → (P z ≤ u) × (N z ≤ d)
+pub least : (z : ℤ) (u d : ℕ) → posPart z + d ≡ negPart z + u → (posPart z ≤ u) × (negPart z ≤ d)
 least (pos n) u d h = omega arith
 least (negsuc n) u d h = omega arith
 
 -- an order, part by part: what a bound by a literal is best read as
-pub le-parts : {a b : ℤ} → a ≤ℤ b → (P a ≤ P b) × (N b ≤ N a)
+pub le-parts : {a b : ℤ} → a ≤ℤ b → (posPart a ≤ posPart b) × (negPart b ≤ negPart a)
 le-parts {a = pos a} {b = pos b} h = omega zarith
 le-parts {a = pos a} {b = negsuc b} h = absurd (h .le)
 le-parts {a = negsuc a} {b = pos b} h = omega arith
 le-parts {a = negsuc a} {b = negsuc b} h = omega zarith
 
-pub parts-le : (a b : ℤ) → P a ≤ P b → N b ≤ N a → a ≤ℤ b
+pub parts-le : (a b : ℤ) → posPart a ≤ posPart b → negPart b ≤ negPart a → a ≤ℤ b
 parts-le a b h k = omega zarith
 
 pub in-le : {lo hi z : ℤ} → lo ≤ℤ z → z ≤ℤ hi → In lo hi z
@@ -201,26 +201,26 @@ in-le h k = record { n-lo = le-parts h .1; p-lo = le-parts h .0; p-hi = le-parts
 
 -- all that `omega` can use of a value that fits, and of what the machine reads back from its bits: `omega (zarith, known (c .fits .x))`
 pub record Known (z : ℤ) : Type 0 where
-  pub below : P z < 2 ^ 63
-  pub above : N z ≤ 2 ^ 63
-  pub backP : P (toZ w64 (ofZ w64 z)) ≡ P z
-  pub backN : N (toZ w64 (ofZ w64 z)) ≡ N z
+  pub below : posPart z < 2 ^ 63
+  pub above : negPart z ≤ 2 ^ 63
+  pub backP : posPart (toZ w64 (ofZ w64 z)) ≡ posPart z
+  pub backN : negPart (toZ w64 (ofZ w64 z)) ≡ negPart z
 
 pub known : {z : ℤ} → SFits w64 z → Known z
-known {z} f = record { below = fits-P z f; above = fits-N z f; backP = ap P (toZ-ofZ f); backN = ap N (toZ-ofZ f) }
+known {z} f = record { below = fits-posPart z f; above = fits-negPart z f; backP = ap posPart (toZ-ofZ f); backN = ap negPart (toZ-ofZ f) }
 
 -- ---- bounds on magnitudes, from the bounds of the parts
 pub abs-fits : {z : ℤ} → ∣ z ∣ < 2 ^ 63 → SFits w64 z
 abs-fits {z} h = omega zarith
 
 pub abs-add : (a b : ℤ) → ∣ a +ℤ b ∣ ≤ ∣ a ∣ + ∣ b ∣
-abs-add a b = let h = least (a +ℤ b) (P a + P b) (N a + N b) (add-law a b) in omega arith
+abs-add a b = let h = least (a +ℤ b) (posPart a + posPart b) (negPart a + negPart b) (add-law a b) in omega arith
 
 pub abs-sub : (a b : ℤ) → ∣ a -ℤ b ∣ ≤ ∣ a ∣ + ∣ b ∣
-abs-sub a b = let h = least (a -ℤ b) (P a + N b) (N a + P b) (sub-lawℤ a b) in omega arith
+abs-sub a b = let h = least (a -ℤ b) (posPart a + negPart b) (negPart a + posPart b) (sub-lawℤ a b) in omega arith
 
 pub abs-mul : (a b : ℤ) → ∣ a *ℤ b ∣ ≡ ∣ a ∣ * ∣ b ∣
-abs-mul a b = omega (arith, mul-P a b, mul-N a b)
+abs-mul a b = omega (arith, mul-posPart a b, mul-negPart a b)
 
 pub abs-mul≤ : (a b : ℤ) (k l : ℕ) → ∣ a ∣ ≤ k → ∣ b ∣ ≤ l → ∣ a *ℤ b ∣ ≤ k * l
 abs-mul≤ a b m n h k = rw (abs-mul a b) (mul-le-mul h k)
@@ -242,26 +242,22 @@ in-yes lo hi z e =
     let h = and-true (leZ lo z) (leZ z hi) e in
     in-le (record { le = T-of (h .0) }) (record { le = T-of (h .1) })
 
-pub abs-of : (z : ℤ) (k : ℕ) → P z ≤ k → N z ≤ k → ∣ z ∣ ≤ k
+pub abs-of : (z : ℤ) (k : ℕ) → posPart z ≤ k → negPart z ≤ k → ∣ z ∣ ≤ k
 abs-of (pos n) k h l = omega arith
 abs-of (negsuc n) k h l = omega arith
 
 -- a number that is u less d is at most k in size exactly if neither is more than k above the other
-pub size-to : (x : ℤ) (u d k : ℕ) → P x + d ≡ N x + u → u ≤ d + k → d ≤ u + k → ∣ x ∣ ≤ k
+pub size-to : (x : ℤ) (u d k : ℕ) → posPart x + d ≡ negPart x + u → u ≤ d + k → d ≤ u + k → ∣ x ∣ ≤ k
 size-to (pos n) u d k e h l = omega arith
 size-to (negsuc n) u d k e h l = omega arith
 
-pub size-from : (x : ℤ) (u d k : ℕ) → P x + d ≡ N x + u → ∣ x ∣ ≤ k → (u ≤ d + k) × (d ≤ u + k)
+pub size-from : (x : ℤ) (u d k : ℕ) → posPart x + d ≡ negPart x + u → ∣ x ∣ ≤ k → (u ≤ d + k) × (d ≤ u + k)
 size-from (pos n) u d k e h = (omega arith, omega arith)
 size-from (negsuc n) u d k e h = (omega arith, omega arith)
 
 -- `==` on signed numbers compares bits
 pub bits-eq : {x y : ℤ} → SFits w64 x → SFits w64 y → ofZ w64 x ≡ ofZ w64 y → x ≡ y
 bits-eq f g e = sym (back f) ∙ ap (toZ w64) e ∙ back g
-
-pub abs-32 : {z : ℤ} → SFits w32 z → ∣ z ∣ ≤ 2147483648
-abs-32 {z = pos n} f = omega (arith, f .sfits)
-abs-32 {z = negsuc n} f = omega (arith, f .sfits)
 
 -- ---- products and orders
 pub mul-nonneg : (a b : ℤ) → pos 0 ≤ℤ a → pos 0 ≤ℤ b → pos 0 ≤ℤ (a *ℤ b)
@@ -273,8 +269,8 @@ pub mul-mono : (a b c : ℤ) → pos 0 ≤ℤ a → b ≤ℤ c → (a *ℤ b) �
 mul-mono (pos n) b c h k =
     let l = le-parts k in
     parts-le (pos n *ℤ b) (pos n *ℤ c)
-    (omega (arith, mul-P (pos n) b, mul-P (pos n) c, mul-le-mul-left n (l .0)))
-    (omega (arith, mul-N (pos n) b, mul-N (pos n) c, mul-le-mul-left n (l .1)))
+    (omega (arith, mul-posPart (pos n) b, mul-posPart (pos n) c, mul-le-mul-left n (l .0)))
+    (omega (arith, mul-negPart (pos n) b, mul-negPart (pos n) c, mul-le-mul-left n (l .1)))
 mul-mono (negsuc n) b c h k = absurd (h .le)
 
 pub ≤ℤ-trans : {a b c : ℤ} → a ≤ℤ b → b ≤ℤ c → a ≤ℤ c
@@ -287,8 +283,8 @@ quot-nonneg (negsuc a) d h = absurd (h .le)
 -- at any divisor a quotient is no larger
 pub quot-abs : (x b : ℤ) → ∣ quotZ x b ∣ ≤ ∣ x ∣
 quot-abs (pos a) (pos b) = omega (arith, div-le-self a b)
-quot-abs (pos a) (negsuc b) = omega (arith, P-neg (pos (a / suc b)), N-neg (pos (a / suc b)), div-le-self a (suc b))
-quot-abs (negsuc a) (pos b) = omega (arith, P-neg (pos (suc a / b)), N-neg (pos (suc a / b)), div-le-self (suc a) b)
+quot-abs (pos a) (negsuc b) = omega (arith, posPart-neg (pos (a / suc b)), negPart-neg (pos (a / suc b)), div-le-self a (suc b))
+quot-abs (negsuc a) (pos b) = omega (arith, posPart-neg (pos (suc a / b)), negPart-neg (pos (suc a / b)), div-le-self (suc a) b)
 quot-abs (negsuc a) (negsuc b) = omega (arith, div-le-self (suc a) (suc b))
 
 pub mul-one≤ : (a b : ℤ) → pos 1 ≤ℤ a → pos 1 ≤ℤ b → pos 1 ≤ℤ (a *ℤ b)

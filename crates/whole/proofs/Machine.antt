@@ -12,7 +12,7 @@ use lib.Dec.{T, ltb, ltb→lt}
 use lib.Signed.{_≤ℤ_, _<ℤ_, leZ, ltZ, nonNeg, quotZ}
 use mir.Syntax.{w64}
 use mir.Val.{Fits, SFits, toZ, ofZ}
-use Rattle.whole.specs.Whole.{P, N, ∣_∣}
+use Rattle.whole.specs.Whole.{posPart, negPart, ∣_∣}
 use Rattle.whole.proofs.Linear.{zarith, abs-fits, abs-add, abs-sub, abs-mul≤, back, quot-fits, fits⇒, quot-abs, bits-pos, mul-one≤, add-law, ⇒le, ⇒ltZ, leZ-true, leZ-false, ltZ-true, ltZ-false}
 
 infixl 6 _⊞_ _⊟_

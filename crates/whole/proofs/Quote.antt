@@ -7,8 +7,8 @@ use lib.Signed.{_≤ℤ_, _<ℤ_}
 use Prim.Native.Nat.{_-_, _^_}
 use mir.Syntax.{w64}
 use mir.Val.{SFits}
-use Rattle.whole.specs.Whole.{P, N}
-use Rattle.whole.proofs.Linear.{least, fits!, add-law, P-neg, N-neg, mul-P, mul-N, eq⇒, ⇒eq, le⇒, ⇒le, lt⇒, ⇒lt}
+use Rattle.whole.specs.Whole.{posPart, negPart}
+use Rattle.whole.proofs.Linear.{least, fits!, add-law, posPart-neg, negPart-neg, mul-posPart, mul-negPart, eq⇒, ⇒eq, le⇒, ⇒le, lt⇒, ⇒lt}
 
 infixl 6 _⊕_ _⊝_
 infixl 7 _⊗_
@@ -28,7 +28,7 @@ ev (⊖ a) = negℤ (ev a)
 
 abbrev mutual
   pub up : E → ℕ
-  up ⟨ z ⟩ = P z
+  up ⟨ z ⟩ = posPart z
   up (# n) = n
   up (a ⊕ b) = up a + up b
   up (a ⊝ b) = up a + dn b
@@ -36,7 +36,7 @@ abbrev mutual
   up (⊖ a) = dn a
 
   pub dn : E → ℕ
-  dn ⟨ z ⟩ = N z
+  dn ⟨ z ⟩ = negPart z
   dn (# n) = 0
   dn (a ⊕ b) = dn a + dn b
   dn (a ⊝ b) = dn a + up b
@@ -48,13 +48,13 @@ mul-bal p n u d q m v e h k =
     omega (arith, ap (λ (x : ℕ). x * q) h, ap (λ (x : ℕ). x * m) h, ap (λ (x : ℕ). u * x) k, ap (λ (x : ℕ). d * x) k)
 
 -- the value's two naturals balance the expression's
-pub bal : (a : E) → P (ev a) + dn a ≡ N (ev a) + up a
+pub bal : (a : E) → posPart (ev a) + dn a ≡ negPart (ev a) + up a
 bal ⟨ z ⟩ = omega arith
 bal (# n) = omega arith
 bal (a ⊕ b) = omega (arith, add-law (ev a) (ev b), bal a, bal b)
-bal (a ⊝ b) = omega (arith, add-law (ev a) (negℤ (ev b)), P-neg (ev b), N-neg (ev b), bal a, bal b)
-bal (a ⊗ b) = omega (arith, mul-P (ev a) (ev b), mul-N (ev a) (ev b), mul-bal (P (ev a)) (N (ev a)) (up a) (dn a) (P (ev b)) (N (ev b)) (up b) (dn b) (bal a) (bal b))
-bal (⊖ a) = omega (arith, P-neg (ev a), N-neg (ev a), bal a)
+bal (a ⊝ b) = omega (arith, add-law (ev a) (negℤ (ev b)), posPart-neg (ev b), negPart-neg (ev b), bal a, bal b)
+bal (a ⊗ b) = omega (arith, mul-posPart (ev a) (ev b), mul-negPart (ev a) (ev b), mul-bal (posPart (ev a)) (negPart (ev a)) (up a) (dn a) (posPart (ev b)) (negPart (ev b)) (up b) (dn b) (bal a) (bal b))
+bal (⊖ a) = omega (arith, posPart-neg (ev a), negPart-neg (ev a), bal a)
 
 -- goals
 pub by≡ : (a b : E) → up a + dn b ≡ up b + dn a → ev a ≡ ev b
@@ -81,7 +81,7 @@ pub fit : (a : E) → (up a - dn a) + (dn a - up a - 1) < 2 ^ 63 → SFits w64 (
 fit a h = fits! (ev a) (omega (arith, bal a))
 
 -- a value's parts are at most the expression's: a bound on each variable's parts gives one on the value
-pub part : (a : E) → (P (ev a) ≤ up a) × (N (ev a) ≤ dn a)
+pub part : (a : E) → (posPart (ev a) ≤ up a) × (negPart (ev a) ≤ dn a)
 part a = least (ev a) (up a) (dn a) (bal a)
 
 -- ---- what IntN lacks

@@ -11,8 +11,8 @@ use lib.Signed.{leZ, ltZ, _≤ℤ_, _<ℤ_}
 use lib.IntN.{ℤ, pos, negsuc, negℤ, negℤ-negℤ, _+ℤ_, _-ℤ_, _*ℤ_}
 use Rattle.whole.specs.Steps.{halfFor}
 use Rattle.whole.specs.Whole.{near, R, signOf, floorZ, modZ, line}
-use Rattle.whole.specs.Whole.{P, N, ∣_∣}
-use Rattle.whole.proofs.Linear.{add-law, P-neg, N-neg, zarith, mul-nonneg, mul-mono, abs-of, le-parts, leZ-true, leZ-false, ⇒le}
+use Rattle.whole.specs.Whole.{posPart, negPart, ∣_∣}
+use Rattle.whole.proofs.Linear.{add-law, posPart-neg, negPart-neg, zarith, mul-nonneg, mul-mono, abs-of, le-parts, leZ-true, leZ-false, ⇒le}
 use Rattle.whole.proofs.Quote.{⟨_⟩, #, _⊕_, _⊝_, _⊗_, ⊖, bal, by≡, by≤, by<, of≡, of≤, of<}
 
 pub near-le : (a b : ℕ) → 0 < b → near a b ≤ a
@@ -29,7 +29,7 @@ R-neg (negsuc n) b h = sym (negℤ-negℤ (pos (near (suc n) b)))
 
 pub R-abs : (z : ℤ) (b : ℕ) → 0 < b → ∣ R z b ∣ ≤ ∣ z ∣
 R-abs (pos n) b h = omega (arith, near-le n b h)
-R-abs (negsuc n) b h = omega (arith, near-le (suc n) b h, P-neg (pos (near (suc n) b)), N-neg (pos (near (suc n) b)))
+R-abs (negsuc n) b h = omega (arith, near-le (suc n) b h, posPart-neg (pos (near (suc n) b)), negPart-neg (pos (near (suc n) b)))
 
 -- a number by its sign and its size
 pub sign-split : (z : ℤ) → signOf (ltZ z (pos 0)) ∣ z ∣ ≡ z
@@ -49,7 +49,7 @@ pub near-hi : (a b : ℕ) → 0 < b → 2 * a < 2 * (near a b * b) + b
 near-hi a b h = omega (arith, lt-div-mul-add {a = 2 * a + b} {b = 2 * b} (mul-pos {m = 2} {n = b} (omega arith) h))
 
 -- |x| from both sides, where x is u less d
-pub abs-diff : (x : ℤ) (u d k : ℕ) → P x + d ≡ N x + u → 2 * u ≤ 2 * d + k → 2 * d ≤ 2 * u + k → 2 * ∣ x ∣ ≤ k
+pub abs-diff : (x : ℤ) (u d k : ℕ) → posPart x + d ≡ negPart x + u → 2 * u ≤ 2 * d + k → 2 * d ≤ 2 * u + k → 2 * ∣ x ∣ ≤ k
 abs-diff (pos n) u d k e h l = omega arith
 abs-diff (negsuc n) u d k e h l = omega arith
 
@@ -93,9 +93,9 @@ near-mono a c b h k = le-div-iff-mul-le (mul-pos {m = 2} {n = b} (omega arith) h
 pub R-mono : (z w : ℤ) (b : ℕ) → 0 < b → z ≤ℤ w → R z b ≤ℤ R w b
 R-mono (pos a) (pos c) b h k = omega (zarith, near-mono a c b h (omega zarith))
 R-mono (pos a) (negsuc c) b h k = absurd (k .le)
-R-mono (negsuc a) (pos c) b h k = omega (zarith, P-neg (pos (near (suc a) b)), N-neg (pos (near (suc a) b)))
+R-mono (negsuc a) (pos c) b h k = omega (zarith, posPart-neg (pos (near (suc a) b)), negPart-neg (pos (near (suc a) b)))
 R-mono (negsuc a) (negsuc c) b h k =
-    omega (zarith, near-mono (suc c) (suc a) b h (omega zarith), P-neg (pos (near (suc a) b)), N-neg (pos (near (suc a) b)), P-neg (pos (near (suc c) b)), N-neg (pos (near (suc c) b)))
+    omega (zarith, near-mono (suc c) (suc a) b h (omega zarith), posPart-neg (pos (near (suc a) b)), negPart-neg (pos (near (suc a) b)), posPart-neg (pos (near (suc c) b)), negPart-neg (pos (near (suc c) b)))
 
 pub between : (v0 v1 u : ℤ) → v0 ≤ℤ v1 → pos 0 ≤ℤ u → u ≤ℤ pos 86400000 → (v0 ≤ℤ line v0 v1 u) × (line v0 v1 u ≤ℤ v1)
 between v0 v1 u h lo hi =
@@ -240,7 +240,7 @@ near-size a b k h l = rw (near-mul k b h) at (near-mono a (k * b) b h l)
 pub R-size : (z : ℤ) (b k : ℕ) → 0 < b → ∣ z ∣ ≤ k * b → ∣ R z b ∣ ≤ k
 R-size (pos a) b k h l = omega (arith, near-size a b k h (omega arith))
 R-size (negsuc a) b k h l =
-    omega (arith, near-size (suc a) b k h (omega arith), P-neg (pos (near (suc a) b)), N-neg (pos (near (suc a) b)))
+    omega (arith, near-size (suc a) b k h (omega arith), posPart-neg (pos (near (suc a) b)), negPart-neg (pos (near (suc a) b)))
 
 -- a value between two days is no larger than the larger of the days' values
 between-size : (z v w : ℤ) (k : ℕ) → v ≤ℤ z → z ≤ℤ w → ∣ v ∣ ≤ k → ∣ w ∣ ≤ k → ∣ z ∣ ≤ k

@@ -4,17 +4,17 @@ use mathlib.Core.Bool.{Bool, true, false}
 use lib.IntN.{ℤ, pos, negsuc, negℤ, _+ℤ_, _-ℤ_, _*ℤ_}
 
 -- A whole number is what it has above zero less what it has below; one of the two is 0.
-abbrev pub P : ℤ → ℕ
-P (pos n) = n
-P (negsuc n) = 0
+abbrev pub posPart : ℤ → ℕ
+posPart (pos n) = n
+posPart (negsuc n) = 0
 
-abbrev pub N : ℤ → ℕ
-N (pos n) = 0
-N (negsuc n) = suc n
+abbrev pub negPart : ℤ → ℕ
+negPart (pos n) = 0
+negPart (negsuc n) = suc n
 
 -- The size of a whole number, without its sign.
 abbrev pub ∣_∣ : ℤ → ℕ
-∣ z ∣ = P z + N z
+∣ z ∣ = posPart z + negPart z
 
 -- A size with a sign: -n where the test holds, and n where it does not.
 abbrev pub signOf : Bool → ℕ → ℤ

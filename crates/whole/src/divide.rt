@@ -6,12 +6,12 @@ ghost use Prim.Native.Nat.{_+_, _/_, _^_, _<_, _≤_};
 ghost use lib.IntN.{pos, _-ℤ_};
 ghost use lib.Signed.{_≤ℤ_};
 ghost use Rattle.whole.specs.Steps.{halfFor};
-ghost use Rattle.whole.specs.Whole.{P, ∣_∣, near, R, floorZ, line};
+ghost use Rattle.whole.specs.Whole.{posPart, ∣_∣, near, R, floorZ, line};
 
 // x / b rounded down.
 pub fn floor_div(x: i64, b: i64) -> i64
     requires { ⌜ pos 1 ≤ℤ b ⌝ }
-    ensures { λ r. ⌜ r ≡ floorZ x (P b) ⌝ }
+    ensures { λ r. ⌜ r ≡ floorZ x (posPart b) ⌝ }
 {
     if x >= 0 { x / b } else { -1 - (-1 - x) / b }
 }

@@ -1,13 +1,12 @@
 // A signed number's size, its sign, and its place in a range.
 ghost use mathlib.Core.Path.{_≡_};
-ghost use mathlib.Core.Bool.{_&&_};
 ghost use Prim.Native.Nat.{_^_, _<_};
-ghost use lib.Signed.{leZ};
+ghost use Rattle.whole.specs.Ranges.{within};
 ghost use Rattle.whole.specs.Whole.{∣_∣, signOf};
 
 // Whether x lies from lo to hi, both included.
 pub fn in_range(x: i64, lo: i64, hi: i64) -> bool
-    ensures { λ r. ⌜ r ≡ (leZ lo x && leZ x hi) ⌝ }
+    ensures { λ r. ⌜ r ≡ within lo hi x ⌝ }
 {
     lo <= x && x <= hi
 }

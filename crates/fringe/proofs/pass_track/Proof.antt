@@ -15,12 +15,12 @@ use mir.Val.{toZ, ofZ}
 use Rattle.whole.specs.Whole.{∣_∣}
 use Rattle.whole.proofs.Linear.{ret}
 use Rattle.session.specs.declared.Pass.{Pass}
-use Rattle.session.specs.Records.{passOf, passAt}
+use Rattle.session.specs.Records.{passOf}
 use Rattle.whole.specs.declared.Number.{Number}
 use Rattle.delay.specs.Calls.{samplesOf, samplesNumber, samplesOutcome, samplesRoom}
 use Rattle.track.specs.Answer.{outcome}
 use Rattle.fringe.specs.PassTrack.{passSamples}
-use Rattle.fringe.proofs.Taken.{refusal-is, value-is, size-is, room-is, room-long, refused-is, made-is, few}
+use Rattle.fringe.proofs.Taken.{refusal-is, value-is, size-is, room-is, room-long, refused-is, made-is, pass-is, few}
 use Rattle.fringe.proofs.pass_track.Statement.{statement}
 use Rattle.fringe.proofs.pass_track.Tie as tie
 
@@ -124,8 +124,8 @@ returns-2 c =
     let p = z .before .before .pass-at in
     let xs : take (z .size .result) (d .samples2 .last .1 .1 .0) ≡ passSamples (fileOf d) (passIn d) =
     ap₂ take (count z) (stored d) ∙ room-is (fileOf d) (passIn d) before (room-accepted e) in
-    let t : toZ w64 (ofZ w64 (p .result .tolerance)) ≡ passAt (fileOf d) (passIn d) .tolerance =
-    ret (p .result .tolerance) (c .before .before .struct-told3 .given .1 .1 .1 .1 .1 .1 .1 .1 .0 .1) ∙ ap (λ (q : Pass). q .tolerance) (p .ensures) in
+    let t : toZ w64 (ofZ w64 (p .result .tolerance)) ≡ passOf (fileOf d) (passIn d) .tolerance =
+    ret (p .result .tolerance) (c .before .before .struct-told3 .given .1 .1 .1 .1 .1 .1 .1 .1 .0 .1) ∙ ap (λ (q : Pass). q .tolerance) (p .ensures ∙ pass-is (fileOf d) (passIn d) 4096 (accepted e)) in
     c .before .track .ensures ∙ ap₂ (λ (ys : List ℤ) (u : ℤ). outcome ys u room) xs t ∙ made-is (fileOf d) (passIn d) room (accepted e)
 
 pub pass-track-spec : {M : Type 1} → statement M

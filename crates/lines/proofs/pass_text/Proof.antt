@@ -9,7 +9,7 @@ use lib.ListN.{length}
 use lib.Signed.{leZ}
 use mir.Syntax.{w64}
 use mir.Val.{toZ, ofZ}
-use Rattle.whole.specs.Whole.{P, ∣_∣}
+use Rattle.whole.specs.Whole.{posPart, ∣_∣}
 use Rattle.whole.proofs.Linear.{ret}
 use Rattle.track.specs.Answer.{Outcome}
 use Rattle.lines.specs.Put.{Put}
@@ -34,7 +34,7 @@ value-is c =
     let t = c .before .before .before .before .pass-track in
     ret (t .result .value) (c .struct-told2 .given .1 .0 .1) ∙ ap (λ (o : Outcome). o .answer .value) (t .ensures)
 
-count-is : (c : tie.After-size) → c .size .result ≡ P (outcomeOf (c .before .before .before .before .before .before .before .before .before .before .before) .answer .value)
+count-is : (c : tie.After-size) → c .size .result ≡ posPart (outcomeOf (c .before .before .before .before .before .before .before .before .before .before .before) .answer .value)
 count-is c =
     let h = lent-holds (c .before .before .before .before .before .before .before .before .before .before .before .before .before .before .before .args .file .now) (c .before .before .before .before .before .before .before .before .before .before .before .before .before .before .before .args .pass) .counted in
     c .size .ensures ∙ ap ∣_∣ (value-is (c .before .before .before .before .before .before .before)) ∙ omega (arith, h)

@@ -15,7 +15,7 @@ use lib.Signed.{nonNeg}
 use mir.Syntax.{w64}
 use mir.Val.{Fits, toZ, ofZ}
 use mir.ValLaws.{toZ-pos}
-use Rattle.whole.specs.Whole.{P, N}
+use Rattle.whole.specs.Whole.{posPart, negPart}
 use Rattle.whole.proofs.Linear.{back}
 use Rattle.track.specs.Segments.{flat}
 use Rattle.track.specs.Made.{trackOf}
@@ -39,7 +39,7 @@ returns c = let x = c .before .before .args in
     sym (answer-2 (x .samples .now) (x .tolerance) (x .room .now) (sym (says (c .before)) ∙ not-true _ (c .if1 .taken)))
 
 -- a tolerance in range, as a natural
-natural : (t : ℤ) → N t ≡ 0 → P t ≤ 1_000_000 → (T (nonNeg t) × Fits w64 (natAbs t)) × (natAbs t ≡ P t)
+natural : (t : ℤ) → negPart t ≡ 0 → posPart t ≤ 1_000_000 → (T (nonNeg t) × Fits w64 (natAbs t)) × (natAbs t ≡ posPart t)
 natural (pos n) h k = ((tt, record { fits = omega arith }), refl)
 natural (negsuc n) h k = absurd (omega arith)
 
@@ -49,14 +49,14 @@ yes-in-range c = sym (says (c .before)) ∙ not-false _ (c .if1 .left)
 given : (c : tie.Else1) → Ranged (c .before .before .args .samples .now) (c .before .before .args .tolerance)
 given c = ranged (c .before .before .args .samples .now) (c .before .before .args .tolerance) (yes-in-range c)
 
-tol : (c : tie.Else1) → (T (nonNeg (c .before .before .args .tolerance)) × Fits w64 (natAbs (c .before .before .args .tolerance))) × (natAbs (c .before .before .args .tolerance) ≡ P (c .before .before .args .tolerance))
+tol : (c : tie.Else1) → (T (nonNeg (c .before .before .args .tolerance)) × Fits w64 (natAbs (c .before .before .args .tolerance))) × (natAbs (c .before .before .args .tolerance) ≡ posPart (c .before .before .args .tolerance))
 tol c = natural (c .before .before .args .tolerance) (given c .from) (given c .tol)
 
 cast-t : tie.Need-cast-t
 cast-t c = subst (λ (y : ℤ). T (nonNeg y) × Fits w64 (natAbs y)) (sym (back (c .before .before .fits .tolerance))) (tol c .0)
 
 -- the tolerance that the code hands on
-handed : (c : tie.Else1) → natAbs (toZ w64 (ofZ w64 (c .before .before .args .tolerance))) ≡ P (c .before .before .args .tolerance)
+handed : (c : tie.Else1) → natAbs (toZ w64 (ofZ w64 (c .before .before .args .tolerance))) ≡ posPart (c .before .before .args .tolerance)
 handed c = ap natAbs (back (c .before .before .fits .tolerance)) ∙ tol c .1
 
 handed-tol : (c : tie.Else1) → natAbs (toZ w64 (ofZ w64 (c .before .before .args .tolerance))) ≤ 1_000_000
@@ -66,7 +66,7 @@ count-segments-requires : tie.Need-count-segments-requires
 count-segments-requires c κs = let e = c .before .before in ((given e .small, given e .few), (handed-tol e, (refl, refl)))
 
 -- how many segments
-many : (c : tie.After-count-segments) → let x = c .before .before .before .before .before .args in c .count-segments .result ≡ length (trackOf (x .samples .now) (P (x .tolerance)))
+many : (c : tie.After-count-segments) → let x = c .before .before .before .before .before .args in c .count-segments .result ≡ length (trackOf (x .samples .now) (posPart (x .tolerance)))
 many c = let e = c .before .before .before in let x = e .before .before .args in
     c .count-segments .ensures .0 ∙ ap (λ (n : ℕ). length (trackOf (x .samples .now) n)) (handed e)
 
@@ -86,7 +86,7 @@ same-length c = search needs
 
 -- the room after it
 after : (c : tie.After-write-segments) → let j = c .before .before .before .before in let x = j .before .before .before .before .before .before .args in
-    let F = flat (trackOf (x .samples .now) (P (x .tolerance))) in
+    let F = flat (trackOf (x .samples .now) (posPart (x .tolerance))) in
     (n : ℕ) → j .if2 .many ≡ n → c .write-segments .last .1 .1 .1 .1 .1 .0 ≡ take (4 * n) F ++ drop (4 * n) (x .room .now)
 after c n h = let j = c .before .before .before .before in let e = j .before .before .before .before in let x = e .before .before .args in
     c .write-segments .ensures ∙ ap₂ (λ (t m : ℕ). take (4 * m) (flat (trackOf (x .samples .now) t)) ++ drop (4 * m) (x .room .now)) (handed e) h
@@ -100,7 +100,7 @@ returns-2 c = let w = c .before .before in let j = w .before .before .before .be
 -- there are few of them
 few : (c : tie.Joined2) → c .if2 .many ≤ 2048
 few c = let k = c .before in let e = k .before .before .before in let x = e .before .before .args in
-    ⊎-elim (λ l. omega (arith, l)) (λ l. omega (arith, l, many k, trackOf-half (x .samples .now) (P (x .tolerance)) (given e .small) (given e .tol), given e .few)) (written c)
+    ⊎-elim (λ l. omega (arith, l)) (λ l. omega (arith, l, many k, trackOf-half (x .samples .now) (posPart (x .tolerance)) (given e .small) (given e .tol), given e .few)) (written c)
 
 cast-t21 : tie.Need-cast-t21
 cast-t21 c = record { sfits = omega (arith, few (c .before .before .before .before .before .before)) }
@@ -115,7 +115,7 @@ returns-3 c =
     let k = j .before in
     let e = k .before .before .before in
     let x = e .before .before .args in
-    let xs = trackOf (x .samples .now) (P (x .tolerance)) in
+    let xs = trackOf (x .samples .now) (posPart (x .tolerance)) in
     let u : (k .count-segments .result ≤ length (x .room .now) / 4) × (j .if2 .many ≡ k .count-segments .result) = ⊎-elim (λ l. absurd (omega (arith, l, c .if3 .left))) (λ l. l) (written j) in
     let n : j .if2 .many ≡ length xs = u .1 ∙ many k in
     let l : length xs ≤ length (x .room .now) / 4 = subst (λ (n : ℕ). n ≤ length (x .room .now) / 4) (many k) (u .0) in

@@ -7,7 +7,7 @@ use lib.IntN.{ℤ, pos, negℤ}
 use mir.Syntax.{w64}
 use mir.Val.{toZ, ofZ}
 use Rattle.whole.specs.Whole.{∣_∣}
-use Rattle.whole.proofs.Linear.{back, abs-fits, P-neg, N-neg}
+use Rattle.whole.proofs.Linear.{back, abs-fits, posPart-neg, negPart-neg}
 use Rattle.sine.specs.Sine.{sineOf, cosineOf}
 use Rattle.sine.proofs.Laws.{sine-size, cosine-size}
 use Rattle.earth.specs.Rotation.{rotationOf}
@@ -64,7 +64,7 @@ returns c =
     let t = d .before .args .tick in
     let k = small (cosineOf t) (cosine-size t) in
     let s = small (sineOf t) (sine-size t) in
-    let n = small (negℤ (sineOf t)) (omega (arith, sine-size t, P-neg (sineOf t), N-neg (sineOf t))) in
+    let n = small (negℤ (sineOf t)) (omega (arith, sine-size t, posPart-neg (sineOf t), negPart-neg (sineOf t))) in
     let e = d .rotate .ensures in
     λ i.
     record {

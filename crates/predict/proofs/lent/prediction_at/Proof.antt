@@ -9,7 +9,7 @@ use lib.IntN.{ℤ, pos, _+ℤ_, _*ℤ_}
 use mir.Syntax.{w64}
 use mir.Val.{SFits, toZ, ofZ}
 use mir.ValLaws.{toZ-pos}
-use Rattle.whole.specs.Whole.{P, ∣_∣, R}
+use Rattle.whole.specs.Whole.{posPart, ∣_∣, R}
 use Rattle.whole.proofs.Linear.{back, abs-fits, abs-sub}
 use Rattle.whole.proofs.Quote.{⟨_⟩, _⊕_, _⊝_, by≡}
 use Rattle.predict.specs.Lent.{Lent, lentOf, segmentOk, soundFrom, answerAt, predicted}
@@ -49,7 +49,7 @@ read : (c : tie.In-loop Inv-loop μ-loop) → let a = c .before in let s = a .be
 read c = let a = c .before in lentOf-more (a .before .args .track .now) (a .loop .i) (omega (arith, c .loop-test .taken))
 
 head : (c : tie.In-loop Inv-loop μ-loop) → let a = c .before in let x = lentAt (a .before .args .track .now) (a .loop .i) in
-    (segmentOk (a .loop .at) x ≡ true) × (soundFrom (a .loop .at + P (x .count)) (lentOf (drop (4 * (a .loop .i + 1)) (a .before .args .track .now))) ≡ true)
+    (segmentOk (a .loop .at) x ≡ true) × (soundFrom (a .loop .at + posPart (x .count)) (lentOf (drop (4 * (a .loop .i + 1)) (a .before .args .track .now))) ≡ true)
 head c = let a = c .before in let s = a .before .args .track .now in
     sound-head (a .loop .at) (lentAt s (a .loop .i)) (lentOf (drop (4 * (a .loop .i + 1)) s))
     (subst (λ (l : List Lent). soundFrom (a .loop .at) l ≡ true) (read c) (a .loop .inv .4))
@@ -61,7 +61,7 @@ answers : (c : tie.In-loop Inv-loop μ-loop) → let a = c .before in let s = a 
     answerAt (lentOf s) (a .before .args .sample) ≡ answerAt (lentAt s (a .loop .i) ∷ lentOf (drop (4 * (a .loop .i + 1)) s)) (a .before .args .sample)
 answers c = let a = c .before in a .loop .inv .5 ∙ ap (λ (l : List Lent). answerAt l (a .before .args .sample)) (read c)
 
-sized : (c : tie.After-size Inv-loop μ-loop) → let a = c .before .before .before in c .size .result ≡ P (lentAt (a .before .args .track .now) (a .loop .i) .count)
+sized : (c : tie.After-size Inv-loop μ-loop) → let a = c .before .before .before in c .size .result ≡ posPart (lentAt (a .before .args .track .now) (a .loop .i) .count)
 sized c = let d = c .before .before in let a = d .before in
     c .size .ensures ∙ ap (λ (z : ℤ). ∣ z ∣) (back {z = getD (a .before .args .track .now) (4 * a .loop .i + 1) (pos 0)} (record { sfits = c .before .count .given })) ∙ is-good d .size
 
@@ -109,9 +109,9 @@ module _ (A r : ℤ) (fA : SFits w64 A) (fr : SFits w64 r) (j : ℕ) (hj : j ≤
 
 -- the sample's place in the segment
 place : (c : tie.After-rate Inv-loop μ-loop) → let a = c .before .before .before .before .before .before in let k = a .before .args .sample in
-    (a .loop .at ≤ k) × (k - a .loop .at < P (lentAt (a .before .args .track .now) (a .loop .i) .count)) × (k - a .loop .at ≤ 1023)
+    (a .loop .at ≤ k) × (k - a .loop .at < posPart (lentAt (a .before .args .track .now) (a .loop .i) .count)) × (k - a .loop .at ≤ 1023)
 place c = let t = c .before .before in let d = t .before .before .before in let a = d .before in
-    let h : a .before .args .sample < a .loop .at + P (lentAt (a .before .args .track .now) (a .loop .i) .count) =
+    let h : a .before .args .sample < a .loop .at + posPart (lentAt (a .before .args .track .now) (a .loop .i) .count) =
     subst (λ (n : ℕ). a .before .args .sample < a .loop .at + n) (sized (t .before)) (t .if1 .taken) in
     (a .loop .inv .3, omega (arith, a .loop .inv .3), omega (arith, is-good d .cap))
 

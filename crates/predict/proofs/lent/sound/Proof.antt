@@ -7,7 +7,7 @@ use native.Mathlib.Omega.{arith}
 use borrow.Author.Tests.{not-true, not-false}
 use lib.ListN.{length, getD, drop}
 use lib.IntN.{ℤ, pos}
-use Rattle.whole.specs.Whole.{P, ∣_∣}
+use Rattle.whole.specs.Whole.{posPart, ∣_∣}
 use Rattle.whole.proofs.Linear.{back}
 use Rattle.whole.proofs.Tests.{no-and}
 use Rattle.predict.specs.Lent.{Lent, lentOf, segmentOk, soundFrom}
@@ -94,7 +94,7 @@ passed c = let a = c .before .before .before .before .before .before .before .be
     (e, good (a .loop .at) (lentAt (a .before .args .track .now) (a .loop .i)) e)
 
 sized : (c : tie.After-size Inv-loop μ-loop) → let a = c .before .before .before .before .before .before .before .before in
-    c .size .result ≡ P (lentAt (a .before .args .track .now) (a .loop .i) .count)
+    c .size .result ≡ posPart (lentAt (a .before .args .track .now) (a .loop .i) .count)
 sized c = let r = c .before .before .before in let a = r .before .before .before .before .before in
     c .size .ensures ∙ ap (λ (z : ℤ). ∣ z ∣) (back {z = getD (a .before .args .track .now) (4 * a .loop .i + 1) (pos 0)} (record { sfits = r .before .before .count .given })) ∙ passed c .1 .size
 

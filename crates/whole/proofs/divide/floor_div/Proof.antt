@@ -6,7 +6,7 @@ use lib.IntN.{ℤ, pos, negsuc, _-ℤ_}
 use lib.Signed.{_≤ℤ_, leZ, quotZ}
 use mir.Syntax.{w64}
 use mir.Val.{SFits}
-use Rattle.whole.specs.Whole.{P, floorZ}
+use Rattle.whole.specs.Whole.{posPart, floorZ}
 use Rattle.whole.proofs.Linear.{zarith, known, sub-lawℤ, leZ-false, no-ft, back, quot-fits, div-ok}
 use Rattle.whole.proofs.divide.floor_div.Statement.{statement}
 use Rattle.whole.proofs.divide.floor_div.Tie as tie
@@ -21,12 +21,12 @@ flip n = omega (zarith, sub-lawℤ (negsuc 0) (pos n))
 flop : (n : ℕ) → negsuc 0 -ℤ negsuc n ≡ pos n
 flop n = omega (zarith, sub-lawℤ (negsuc 0) (negsuc n))
 
-up : (x b : ℤ) → pos 1 ≤ℤ b → leZ (pos 0) x ≡ true → quotZ x b ≡ floorZ x (P b)
+up : (x b : ℤ) → pos 1 ≤ℤ b → leZ (pos 0) x ≡ true → quotZ x b ≡ floorZ x (posPart b)
 up (pos a) (pos b) h t = refl
 up (pos a) (negsuc b) h t = absurd (h .le)
 up (negsuc a) b h t = no-ft t
 
-down : (x b : ℤ) → pos 1 ≤ℤ b → leZ (pos 0) x ≡ false → negsuc 0 -ℤ quotZ (negsuc 0 -ℤ x) b ≡ floorZ x (P b)
+down : (x b : ℤ) → pos 1 ≤ℤ b → leZ (pos 0) x ≡ false → negsuc 0 -ℤ quotZ (negsuc 0 -ℤ x) b ≡ floorZ x (posPart b)
 down (pos a) b h t = absurd (omega (zarith, leZ-false (pos 0) (pos a) t))
 down (negsuc a) (pos b) h t = ap (λ (z : ℤ). negsuc 0 -ℤ quotZ z (pos b)) (flop a) ∙ flip (a / b)
 down (negsuc a) (negsuc b) h t = absurd (h .le)
