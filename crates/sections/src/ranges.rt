@@ -54,7 +54,7 @@ fn first_record(
         }
         i += 1;
     }
-    i
+    n
 }
 
 // The first record of place p with a field out of its range, or the number of its records.
@@ -95,5 +95,5 @@ pub fn wrong_section(s: &[u8]) -> usize
         }
         p += 1;
     }
-    p
+    4
 }
