@@ -1,8 +1,10 @@
 /*
  * Erlensieg: the model of a fringe check, for the correlator's host.
  *
- * From a session file to Earth rotation, delays, delay samples, tracks, and the delay that a track predicts. Link with libhost.a, which
- * examples/run-host builds (x86-64 Linux); it needs no other library and keeps nothing between calls, so calls may run at the same time.
+ * From a session file to Earth rotation, delays, delay samples, tracks, and the delay that a track predicts. Link with target/staticlib/libhost.a, which
+ * `rt staticlib host` makes: for x86-64 Linux, and on Arm with a cross compiler and an emulator, as examples/run-host does. It needs memcpy and memset of
+ * the C library, no other, and keeps nothing between calls, so calls may run at the same time. The stack that a call takes, as measured and rounded up:
+ * fringe_write 67,000 bytes, fringe_track 63,000, fringe_tide, fringe_orientation, fringe_delay and fringe_samples 3,000, each of the others 400.
  *
  * Units
  *   tick               1/2^32 of a turn, 0 to 2^32 - 1
@@ -16,7 +18,8 @@
  *   offset, rate       of a segment: 1/65,536 picosecond, and that for each sample
  *
  * Refusals
- *   Every call answers every input. A struct's `refusal` is 0, or the lowest of these numbers that applies; then its other fields are 0.
+ *   Every call answers every input. A struct's `refusal` is 0, or the lowest of these numbers that applies; then its other fields are 0. So an argument's
+ *   2 comes before a file's 3 or 4, and after its 1.
  *     1  file over 65,536 bytes, or its contents table or length not as they must be, counts included (the writer: counts)
  *     2  a field of the file, or an argument of the call, outside its range
  *     3  station or source ids do not rise
@@ -37,13 +40,14 @@
  * Session file
  *   All numbers of 8 bytes, little-endian, two's complement. First the contents table: the number of sections, 4; then for kinds 1, 2, 3, 4: kind,
  *   first byte, record count. Then the four bodies in that order without gaps, the first at byte 104, the last ending the file.
- *     kind 1, station       id 1-65,535, rising; X, Y, Z within 6,400,000,000 either side                                1 to 64 records
- *     kind 2, source        id 1-65,535, rising; right ascension 0 to 2^32 - 1; declination within 2^30 either side     1 to 256
- *     kind 3, orientation   MJD, consecutive; x, y within 1,000,000 either side; UT1-UTC within 900,000,000; TAI-UTC 0-99     2 to 64
- *     kind 4, pass          ids of station 1, station 2 and source; MJD; UTC millisecond; step 1-3,600,000 ms; samples 1-4,096;
- *                           tolerance 0-1,000,000                                                                          1 to 64
- *   A record stands at 0h UTC of its day. UT1-UTC is UT1R, with the short tide removed: the calls below add the tide. A source's place is on the
- *   intermediate equator of date, right ascension counted from the celestial intermediate origin, both in ticks.
+ *     kind 1, station       id 1-65,535, rising; X, Y, Z within 6,400,000,000 either side                                    1 to 64 records
+ *     kind 2, source        id 1-65,535, rising; right ascension 0 to 2^32 - 1; declination within 2^30 either side          1 to 256
+ *     kind 3, orientation   MJD, consecutive; x, y within 1,000,000 either side; UT1-UTC within 900,000,000; TAI-UTC 0-99    2 to 64
+ *     kind 4, pass          ids of station 1, station 2 and source; MJD; UTC millisecond; step from one sample to the next 1-3,600,000 ms;
+ *                           samples 1-4,096; tolerance 0-1,000,000                                                           1 to 64
+ *   X, Y, Z are a station's place in the Earth-fixed frame: X toward the Greenwich meridian, Y toward 90 degrees east, Z toward the pole. A source's
+ *   place is on the intermediate equator of date, right ascension counted from the celestial intermediate origin, both in ticks. An orientation record
+ *   stands at 0h UTC of its day. UT1-UTC is UT1R, with the short tide removed: the calls below add the tide.
  */
 #ifndef ERLENSIEG_H
 #define ERLENSIEG_H
@@ -70,7 +74,7 @@ struct fringe_ticks {
 	uint32_t l, lp, f, d, om;
 };
 
-/* E, in 10^-17 of a turn, and the Earth rotation angle ERA, in ticks */
+/* E, in 10^-17 of a turn, 0 to 10^17 - 1, and the Earth rotation angle ERA, in ticks */
 struct fringe_angle {
 	int64_t refusal, e;
 	uint32_t tick;
@@ -131,10 +135,10 @@ int64_t fringe_cosine(uint32_t tick);
 /* The epoch that is `add` milliseconds later, 0 to 14,742,000,000; the day reached may pass 69,806. Refusal: 2. */
 struct fringe_epoch fringe_later(int64_t day, int64_t ms, int64_t add);
 
-/* n and the five arguments at an epoch, with TAI-UTC 0 to 99. Refusal: 2. */
+/* n and the five arguments at an epoch, with `tai` for TAI-UTC, 0 to 99. Refusal: 2. */
 struct fringe_ticks fringe_arguments(int64_t day, int64_t ms, int64_t tai);
 
-/* The short-period tide in UT1 at an epoch, with TAI-UTC 0 to 99: nanoseconds, at most 2,723,000 either side. Refusal: 2. */
+/* The short-period tide in UT1 at an epoch, with `tai` for TAI-UTC, 0 to 99: nanoseconds, at most 2,723,000 either side. Refusal: 2. */
 struct fringe_number fringe_tide(int64_t day, int64_t ms, int64_t tai);
 
 /* E and ERA of a day and of f microseconds of UT1 in it, -100,000,000 to 86,500,000,000. Refusal: 2. */
@@ -151,8 +155,8 @@ struct fringe_counts fringe_check(const uint8_t *file, size_t n);
 /*
  * Where the number that fringe_check gives arises first: number 0 and zeros for an accepted file.
  * For number 1, section and record are 0, and field is the first wrong 8-byte number of the contents table, counted from 0 to 12, or 13 where the
- * table is right and the file's length is not. For 2, 3 and 4, section is the kind, 1 to 4, and record and field count from 0; for 3 and 4 the
- * record is the later of the two that do not follow each other, and field is 0.
+ * table is right and the file's length is not; a number that the file does not wholly hold is wrong. For 2, 3 and 4, section is the kind, 1 to 4, and
+ * record and field count from 0; for 3 and 4 the record is the later of the two that do not follow each other, and field is 0.
  */
 struct fringe_place fringe_fault(const uint8_t *file, size_t n);
 
@@ -170,16 +174,22 @@ struct fringe_pass fringe_pass_at(const uint8_t *file, size_t n, uint64_t index)
 struct fringe_number fringe_write(const int64_t *stations, size_t stations_length, const int64_t *sources, size_t sources_length, const int64_t *days,
 				  size_t days_length, const int64_t *passes, size_t passes_length, uint8_t *room, size_t room_length);
 
-/* ---- Delays of the file's stations and sources */
+/*
+ * ---- Delays of the file's stations and sources
+ *
+ * A delay is the time at which the wave reaches station 2 less that at which it reaches station 1: picoseconds, never beyond 130,000,000,000 either side.
+ * Exchanged stations negate it exactly, and one station named twice gives 0.
+ */
 
 /* The pole, UT1-UTC with the tide, and ERA, as used at an epoch. Refusals: 1 to 4, 2 also for the epoch, and 6. */
 struct fringe_earth fringe_orientation(const uint8_t *file, size_t n, int64_t day, int64_t ms);
 
-/* The delay at an epoch between two stations, by their ids, for a source, by its id: picoseconds. Refusals: 1 to 4, 2 also for ids and epoch, 5, 6. */
+/* The delay at an epoch between two stations, by their ids, for a source, by its id. Refusals: 1 to 4, 2 also for ids and epoch, 5, 6. */
 struct fringe_number fringe_delay(const uint8_t *file, size_t n, int64_t station1, int64_t station2, int64_t source, int64_t day, int64_t ms);
 
 /*
- * The delays of a pass's samples, by the pass's index, counted from 0: `m` numbers from `room` are lent. value: samples written; 4,096 are always enough.
+ * The delays of a pass's samples, by the pass's index, counted from 0. Sample i, counted from 0, is the delay at the pass's epoch with i times its step
+ * added. `m` numbers from `room` are lent. value: samples written; 4,096 are always enough.
  * Refusals: 1 to 4; 5 where the pass, or a station or the source that it names, is not there; 6; 7.
  */
 struct fringe_number fringe_samples(const uint8_t *file, size_t n, uint64_t pass, int64_t *room, size_t m);
@@ -187,9 +197,12 @@ struct fringe_number fringe_samples(const uint8_t *file, size_t n, uint64_t pass
 /* ---- Tracks */
 
 /*
- * The track of `n` samples, 1 to 4,096, each within 130,000,000,000 either side, with a tolerance from 0 to 1,000,000: the fewest segments of all tracks
- * that keep each sample within the tolerance. `m` numbers from `room` are lent, four to a segment: first sample, samples (1 to 1,024), offset A,
- * rate r; the numbers behind the last whole segment are not used. value: segments written. 8,192 numbers are always enough.
+ * The track of `n` samples, 1 to 4,096, each within 130,000,000,000 either side, with a tolerance from 0 to 1,000,000. `m` numbers from `room` are lent,
+ * four to a segment: first sample, samples (1 to 1,024), offset A, rate r; the numbers behind the last whole segment are not used. value: segments
+ * written. 8,192 numbers are always enough.
+ * A segment fits if A + r j lies within 65,536 times the tolerance of 65,536 times its sample j, for each j from 0. The first segment starts at sample 0,
+ * each other where the one before it ends, and the last ends at the last sample. Each is the longest that fits from its start; its r is the least that
+ * fits, 0 for a single sample, and its A the least for that r. So the track has the fewest segments of all whose every segment fits.
  * Refusals: 2; and 8 exactly if no track fits the room.
  */
 struct fringe_number fringe_track(const int64_t *samples, size_t n, int64_t tolerance, int64_t *room, size_t m);
@@ -202,7 +215,7 @@ struct fringe_number fringe_track(const int64_t *samples, size_t n, int64_t tole
  */
 struct fringe_number fringe_predict(const int64_t *track, size_t n, uint64_t sample);
 
-/* The same prediction as two doubles, each divided once: seconds (ps / 1e12), and cycles of the 32 MHz clock (32 ps / 1e6). Refusal: 9. */
+/* The same prediction as two doubles: seconds, the ps divided once by 1e12; and cycles of the 32 MHz clock, the ps times 32, divided once by 1e6. Refusal: 9. */
 struct fringe_host fringe_host_at(const int64_t *track, size_t n, uint64_t sample);
 
 #ifdef __cplusplus

@@ -5,31 +5,37 @@
 #define ROOM 600
 #define GUARD 32
 static uint8_t memory[GUARD + ROOM + GUARD];
-static int64_t lists[4][16], kept[4][16];
+
+/* the four lists, each between guard numbers */
+#define GUARDS 8
+#define NUMBERS (GUARDS + 16 + GUARDS)
+static int64_t lent[4][NUMBERS], kept[4][NUMBERS];
+static int64_t *lists[4];
 static size_t length[4];
 
 static void fill(void)
 {
 	static const size_t numbers[] = {8, 6, 15, 16};
 	for (int i = 0; i < 4; i++) {
-		for (int j = 0; j < 16; j++)
-			lists[i][j] = -987654321 - i;
+		for (int j = 0; j < NUMBERS; j++)
+			lent[i][j] = -987654321 - NUMBERS * i - j;
+		lists[i] = lent[i] + GUARDS;
 		memcpy(lists[i], sound + word(i + 1, 0, 0), numbers[i] * 8);
 		length[i] = numbers[i];
 	}
 }
 
-/* the answer in a room of m bytes, and every byte of the room, its guards and the lists afterwards */
+/* the answer in a room of m bytes, and every byte of the room, of the lists and of their guards afterwards */
 static void written(const char *what, size_t m, int64_t refusal, int64_t count)
 {
 	uint8_t want[sizeof memory];
 	memset(memory, 0x5A, sizeof memory);
 	memset(want, 0x5A, sizeof want);
 	memcpy(want + GUARD, sound, count);
-	memcpy(kept, lists, sizeof lists);
+	memcpy(kept, lent, sizeof lent);
 	number(what, fringe_write(lists[0], length[0], lists[1], length[1], lists[2], length[2], lists[3], length[3], memory + GUARD, m), refusal, count);
 	one(what, memcmp(memory, want, sizeof want), 0);
-	one(what, memcmp(kept, lists, sizeof lists), 0);
+	one(what, memcmp(kept, lent, sizeof lent), 0);
 }
 
 static void short_by(const char *what, int list, size_t numbers)

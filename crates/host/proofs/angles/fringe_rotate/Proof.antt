@@ -3,7 +3,8 @@ use borrow.Author.Needs.{needs}
 use mathlib.Core.Path.{_≡_, ap, _∙_}
 use native.Mathlib.Omega.{arith}
 use Prim.Native.Nat.{ℕ, _^_, _≤_}
-use lib.IntN.{ℤ, pos, negℤ}
+use mathlib.Core.List.{List}
+use lib.IntN.{ℤ, negℤ}
 use mir.Syntax.{w64}
 use mir.Val.{toZ, ofZ}
 use Rattle.whole.specs.Whole.{∣_∣}
@@ -11,6 +12,7 @@ use Rattle.whole.proofs.Linear.{back, abs-fits, posPart-neg, negPart-neg}
 use Rattle.sine.specs.Sine.{sineOf, cosineOf}
 use Rattle.sine.proofs.Laws.{sine-size, cosine-size}
 use Rattle.earth.specs.Rotation.{rotationOf}
+use Rattle.host.specs.declared.angles.Rotation.{Rotation}
 use Rattle.host.specs.Nine.{entryOf, nineOf}
 use Rattle.host.proofs.angles.fringe_rotate.Statement.{statement}
 use Rattle.host.proofs.angles.fringe_rotate.Tie as tie
@@ -54,30 +56,47 @@ array-copy-out-t37 c = search needs
 array-copy-out-t40 : tie.Need-array-copy-out-t40
 array-copy-out-t40 c = search needs
 
-small : (z : ℤ) → ∣ z ∣ ≤ 2 ^ 30 → toZ w64 (ofZ w64 z) ≡ z
+-- a number as a word holds it
+abbrev stored : ℤ → ℤ
+stored z = toZ w64 (ofZ w64 z)
+
+small : (z : ℤ) → ∣ z ∣ ≤ 2 ^ 30 → stored z ≡ z
 small z h = back (abs-fits {z = z} (omega (arith, h)))
 
-returns : tie.Need-returns
+-- the nine words of rows that are the rotation's
+nine-words : (rows : List (List ℤ)) (t : ℕ) → rows ≡ rotationOf t → _≡_ {A = Rotation} (record {
+  xx = stored (entryOf rows 0 0);
+  xy = stored (entryOf rows 0 1);
+  xz = stored (entryOf rows 0 2);
+  yx = stored (entryOf rows 1 0);
+  yy = stored (entryOf rows 1 1);
+  yz = stored (entryOf rows 1 2);
+  zx = stored (entryOf rows 2 0);
+  zy = stored (entryOf rows 2 1);
+  zz = stored (entryOf rows 2 2);
+}) (nineOf (rotationOf t))
 unfolding nineOf rotationOf
-returns c =
-    let d = c .before .before .before .before .before .before .before .before .before .before .before .before in
-    let t = d .before .args .tick in
+nine-words rows t e =
     let k = small (cosineOf t) (cosine-size t) in
     let s = small (sineOf t) (sine-size t) in
     let n = small (negℤ (sineOf t)) (omega (arith, sine-size t, posPart-neg (sineOf t), negPart-neg (sineOf t))) in
-    let e = d .rotate .ensures in
     λ i.
     record {
-      xx = (ap (λ m. toZ w64 (ofZ w64 (entryOf m 0 0))) e ∙ k) i;
-      xy = (ap (λ m. toZ w64 (ofZ w64 (entryOf m 0 1))) e ∙ n) i;
-      xz = ap (λ m. toZ w64 (ofZ w64 (entryOf m 0 2))) e i;
-      yx = (ap (λ m. toZ w64 (ofZ w64 (entryOf m 1 0))) e ∙ s) i;
-      yy = (ap (λ m. toZ w64 (ofZ w64 (entryOf m 1 1))) e ∙ k) i;
-      yz = ap (λ m. toZ w64 (ofZ w64 (entryOf m 1 2))) e i;
-      zx = ap (λ m. toZ w64 (ofZ w64 (entryOf m 2 0))) e i;
-      zy = ap (λ m. toZ w64 (ofZ w64 (entryOf m 2 1))) e i;
-      zz = ap (λ m. toZ w64 (ofZ w64 (entryOf m 2 2))) e i;
+      xx = (ap (λ m. stored (entryOf m 0 0)) e ∙ k) i;
+      xy = (ap (λ m. stored (entryOf m 0 1)) e ∙ n) i;
+      xz = ap (λ m. stored (entryOf m 0 2)) e i;
+      yx = (ap (λ m. stored (entryOf m 1 0)) e ∙ s) i;
+      yy = (ap (λ m. stored (entryOf m 1 1)) e ∙ k) i;
+      yz = ap (λ m. stored (entryOf m 1 2)) e i;
+      zx = ap (λ m. stored (entryOf m 2 0)) e i;
+      zy = ap (λ m. stored (entryOf m 2 1)) e i;
+      zz = ap (λ m. stored (entryOf m 2 2)) e i;
     }
+
+returns : tie.Need-returns
+returns c =
+    let d = c .before .before .before .before .before .before .before .before .before .before .before .before in
+    nine-words _ (d .before .args .tick) (d .rotate .ensures)
 
 pub fringe-rotate-spec : {M : Type 1} → statement M
 fringe-rotate-spec =
