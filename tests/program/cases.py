@@ -29,11 +29,19 @@ def refused_passes(stdout):
     return [(index, int(number)) for index, (word, number, *_) in enumerate(heads) if word == "refused"]
 
 
+def lacking(lists, index):
+    """Field and id of each station and source that a pass names and the file lacks."""
+    stations, sources, _, passes = lists
+    named = zip(passes[index], (stations, stations, sources))
+    return [(field, name) for field, (name, records) in enumerate(named) if name not in [record[0] for record in records]]
+
+
 def said(file, stdout):
     """Standard error, for a file and what is printed for it: why the file is refused, or each pass that is."""
     if session.refusal(file):
-        return text([words.of_file(session.fault(file))])
-    return text(words.of_pass(index, number) for index, number in refused_passes(stdout))
+        return text([words.of_file(len(file), session.fault(file))])
+    lists = session.sections_of(file)
+    return text(words.of_pass(index, number, lacking(lists, index)) for index, number in refused_passes(stdout))
 
 
 def report(cases):
