@@ -1,10 +1,7 @@
 /* links: host */
 #include "frame.h"
-#include "../include/erlensieg.h"
 #include "baseline/sine.c"
-#define rows tide_rows
 #include "baseline/earth.c"
-#undef rows
 #include "baseline/session.c"
 #include "baseline/delay.c"
 

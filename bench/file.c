@@ -1,6 +1,5 @@
 /* links: host */
 #include "frame.h"
-#include "../include/erlensieg.h"
 #include "baseline/session.c"
 
 /* The fullest session: 64 stations, 256 sources, 64 days and 64 passes, 14,952 bytes. */
@@ -42,7 +41,7 @@ static int64_t plain_check(int begun)
 	static unsigned long call;
 	if (call == 0)
 		fill(), ours_into(file);
-	return call++ % SHARE == 0 ? base_check(file, BYTES).count[1] : begun;
+	return call++ % SHARE == 0 ? base_check(file, BYTES).sources : begun;
 }
 
 static int64_t our_write(int begun)

@@ -1,6 +1,7 @@
 /* links: bench */
 #include <stdbool.h>
 #include "frame.h"
+#include "baseline/baseline.h"
 
 int64_t bench_floor(int64_t, int64_t);
 int64_t bench_round(int64_t, uint64_t);
@@ -19,8 +20,6 @@ typedef unsigned __int128 unsigned_wide;
 
 static const int64_t M = 681644160000000000;
 
-static int64_t plain_floor(int64_t x, int64_t b) { return x / b - (x % b < 0); }
-
 /* R(a/b), halves away from zero */
 static int64_t plain_round(int64_t a, uint64_t b)
 {
@@ -29,7 +28,7 @@ static int64_t plain_round(int64_t a, uint64_t b)
 	return a < 0 ? -m : m;
 }
 
-static int64_t plain_floor_60000(int64_t x) { return plain_floor(x, 60000); }
+static int64_t plain_floor_60000(int64_t x) { return base_floor(x, 60000); }
 
 static int64_t plain_round_1000000(int64_t a) { return plain_round(a, 1000000); }
 
@@ -47,8 +46,7 @@ static uint32_t plain_rotation_ticks(uint64_t e) { return ((unsigned_wide)e << 3
 
 static int64_t plain_turned(int64_t x, int64_t y, int64_t c, int64_t d)
 {
-	wide p = (wide)x * c + (wide)y * d;
-	return p < 0 ? -((-p + (1 << 29)) >> 30) : (p + (1 << 29)) >> 30;
+	return base_nearest_of_30_bits((wide)x * c + (wide)y * d);
 }
 
 static int64_t plain_light_time(int64_t g)
@@ -63,7 +61,7 @@ static bool plain_within(int64_t a, int64_t r, int64_t j, int64_t s, int64_t k)
 	return v < 0 ? -v <= k : v <= k;
 }
 
-ROW(floor, int64_t, (int64_t x, int64_t b), (between(-4000000000000000000, 4000000000000000000), between(1, 100000000)), bench_floor, plain_floor)
+ROW(floor, int64_t, (int64_t x, int64_t b), (between(-4000000000000000000, 4000000000000000000), between(1, 100000000)), bench_floor, base_floor)
 ROW(round, int64_t, (int64_t a, uint64_t b), (between(-4000000000000000000, 4000000000000000000), between(1, 100000000)), bench_round, plain_round)
 ROW(floor_60000, int64_t, (int64_t x), (between(-4000000000000000000, 4000000000000000000)), bench_floor_60000, plain_floor_60000)
 ROW(round_1000000, int64_t, (int64_t a), (between(-4000000000000000000, 4000000000000000000)), bench_round_1000000, plain_round_1000000)

@@ -3,6 +3,7 @@
 import features
 import programs
 from earth import cases as earth
+from reference import session
 
 LEAST = {
     "files": 500,
@@ -28,6 +29,15 @@ def session_files(tally):
         tally.check("enough: " + name, counts.get(name, 0) >= least, "%d, wanted %d" % (counts.get(name, 0), least))
 
 
+def places_of_faults(tally):
+    """Every word of the contents table, the length, every field and every order is wrong in some file: number, kind and field."""
+    found = {(number, kind, field) for number, kind, _, field in (session.fault(file) for file, _ in programs.expected("tracks"))}
+    contents = {(1, 0, field) for field in range(14)}
+    fields = {(2, kind, field) for kind, ranges, _, _ in session.SECTIONS for field in range(len(ranges))}
+    missing = (contents | fields | {(3, 1, 0), (3, 2, 0), (4, 3, 0)}) - found
+    tally.check("enough: a fault at each place", not missing, "none at %s" % sorted(missing))
+
+
 def earth_inputs(tally):
     made = earth.cases()
     days = [case[1] for case in made if case[0] in (earth.ARGUMENTS, earth.TIDE, earth.ANGLE, earth.LATER)]
@@ -40,4 +50,5 @@ def earth_inputs(tally):
 
 def run(tally):
     session_files(tally)
+    places_of_faults(tally)
     earth_inputs(tally)

@@ -1,5 +1,5 @@
-"""Outputs that are stored: a part of what the reference prints for each program, with the digest of the whole, and the file `stdout` of
-each program crate whose input the reference can read. `tests/remake` makes them anew; here they are held to the reference.
+"""Files that are stored: a part of what the reference prints for each program, with the digest of the whole, and the files `stdin` and `stdout` of
+each program crate. `tests/remake` makes them anew; here they are held to the reference.
 """
 
 import hashlib
@@ -21,27 +21,32 @@ def summary(crate):
     return "\n".join(["sha256 %s of %d lines" % (hashlib.sha256(whole).hexdigest(), len(lines)), *shown]) + "\n"
 
 
-def summary_path(crate):
-    return os.path.join(FOLDER, crate + ".txt")
+def summaries():
+    """For each crate whose program is run over more than its file `stdin`."""
+    for crate, module in programs.CASES.items():
+        if [stdin for stdin, _ in programs.expected(crate)] != [module.short()]:
+            yield (os.path.join(FOLDER, crate + ".txt"), summary(crate).encode())
 
 
-def crate_outputs():
-    """The path of `stdout` and what it should hold, for each program crate with a `stdin` that the reference can read."""
+def crate_files():
+    """The files of each program crate. One that goes with another's program, as tracks_range, has a `stdin` of its own, from which `stdout` follows."""
     for crate in rattle.crates():
-        folder = os.path.join(rattle.ROOT, "crates", crate)
-        module, stdin = programs.cases_of(crate), os.path.join(folder, "stdin")
-        if module is not None and os.path.exists(stdin):
-            with open(stdin, "rb") as file:
-                yield (os.path.join(folder, "stdout"), module.printed(file.read()))
+        module = programs.cases_of(crate)
+        if module is not None:
+            stdin, stdout = (os.path.join(rattle.ROOT, "crates", crate, name) for name in ("stdin", "stdout"))
+            if crate in programs.CASES and module.short():
+                yield (stdin, module.short())
+            yield (stdout, module.printed(module.short() if crate in programs.CASES else contents(stdin)))
 
 
-def all_outputs():
-    """Every stored output: its path and its bytes."""
-    yield from ((summary_path(crate), summary(crate).encode()) for crate in programs.CASES)
-    yield from crate_outputs()
+def all_files():
+    """Every stored file: its path and its bytes."""
+    yield from summaries()
+    yield from crate_files()
 
 
 def contents(path):
+    """The bytes of a file, none where there is no file."""
     if not os.path.exists(path):
         return b""
     with open(path, "rb") as file:
@@ -49,6 +54,6 @@ def contents(path):
 
 
 def run(tally):
-    for path, wanted in all_outputs():
+    for path, wanted in all_files():
         name = os.path.relpath(path, rattle.ROOT)
         tally.check("stored " + name, contents(path) == wanted, "differs from the reference: tests/remake makes it anew")

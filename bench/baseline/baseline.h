@@ -1,31 +1,24 @@
 /* Plain C by the rules of document 01, with __int128 where a product passes 64 bits: what the proved calls are measured beside.
    Names, arguments, answers and refusal numbers are those of include/erlensieg.h, with base_ for fringe_. Nothing here is proved;
-   selftest holds it to the independent program of tests/reference. */
+   selftest holds it to the independent program of tests/reference, and bench/run starts with that. */
 #ifndef BASELINE_H
 #define BASELINE_H
 
-#include <stddef.h>
-#include <stdint.h>
-
-struct base_number { int64_t refusal, value; };
-struct base_ticks { int64_t refusal, n; uint32_t argument[5]; };
-struct base_angle { int64_t refusal, e; uint32_t tick; };
-struct base_counts { int64_t refusal, count[4]; };
-struct base_earth { int64_t refusal, x, y, ut1_utc; uint32_t tick; };
+#include "../../include/erlensieg.h"
 
 int64_t base_sine(uint32_t tick);
 int64_t base_cosine(uint32_t tick);
-struct base_ticks base_arguments(int64_t day, int64_t ms, int64_t tai);
-struct base_number base_tide(int64_t day, int64_t ms, int64_t tai);
-struct base_angle base_angle_at(int64_t day, int64_t f);
-struct base_counts base_check(const uint8_t *file, size_t n);
-struct base_number base_write(const int64_t *const lists[4], const size_t lengths[4], uint8_t *room, size_t m);
-struct base_earth base_orientation(const uint8_t *file, size_t n, int64_t day, int64_t ms);
-struct base_number base_delay(const uint8_t *file, size_t n, int64_t station1, int64_t station2, int64_t source, int64_t day, int64_t ms);
-struct base_number base_samples(const uint8_t *file, size_t n, uint64_t pass, int64_t *room, size_t m);
-/* The same track in two ways: every pair of samples of a segment, and the convex hulls of the two edges of the band. */
-struct base_number base_track_by_pairs(const int64_t *samples, size_t n, int64_t tolerance, int64_t *room, size_t m);
-struct base_number base_track_by_hulls(const int64_t *samples, size_t n, int64_t tolerance, int64_t *room, size_t m);
+struct fringe_epoch base_later(int64_t day, int64_t ms, int64_t add);
+struct fringe_ticks base_arguments(int64_t day, int64_t ms, int64_t tai);
+struct fringe_number base_tide(int64_t day, int64_t ms, int64_t tai);
+struct fringe_angle base_angle_at(int64_t day, int64_t f);
+struct fringe_counts base_check(const uint8_t *file, size_t n);
+/* The four lists and their lengths, in the order of fringe_write. */
+struct fringe_number base_write(const int64_t *const lists[4], const size_t lengths[4], uint8_t *room, size_t m);
+struct fringe_earth base_orientation(const uint8_t *file, size_t n, int64_t day, int64_t ms);
+struct fringe_number base_delay(const uint8_t *file, size_t n, int64_t station1, int64_t station2, int64_t source, int64_t day, int64_t ms);
+struct fringe_number base_samples(const uint8_t *file, size_t n, uint64_t pass, int64_t *room, size_t m);
+struct fringe_number base_track(const int64_t *samples, size_t n, int64_t tolerance, int64_t *room, size_t m);
 
 /* Inner functions that several files use. */
 int64_t base_minutes(int64_t day, int64_t ms, int64_t tai);
@@ -35,12 +28,10 @@ int64_t base_word(const uint8_t *file, size_t at);
 int base_day_in_range(int64_t day);
 int base_ms_in_range(int64_t ms);
 
-/* The fields of a record of each kind: how many, and from where to where. */
+/* How many fields a record of each kind has. */
 extern const size_t base_fields[4];
-extern const int64_t base_least_count[4], base_most_count[4];
 
 static inline int64_t base_floor(int64_t a, int64_t b) { return a / b - (a % b < 0); }
-static inline int64_t base_ceiling(int64_t a, int64_t b) { return a / b + (a % b > 0); }
 
 /* The nearest whole number to a/b, halves away from zero; 2·a fits 64 bits. */
 static inline int64_t base_nearest(int64_t a, int64_t b) { return a < 0 ? -((b - 2 * a) / (2 * b)) : (2 * a + b) / (2 * b); }

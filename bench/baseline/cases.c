@@ -1,6 +1,6 @@
 /* Answers the questions of the tests with the baseline, in the formats of tests/README.md:
    `cases earth`, `cases check` (the first line of session_answers alone), `cases write`, `cases delay`,
-   `cases pairs` and `cases hulls` (the tracks of track_answers; predictions are not asked). */
+   `cases track` (the tracks of track_answers; predictions are not asked). */
 #include "baseline.h"
 
 #include <inttypes.h>
@@ -15,40 +15,33 @@ static uint8_t bytes[16384];
 
 static int64_t number(size_t index) { return base_word(input, 8 * index); }
 
+static void answer(struct fringe_number a) { printf("%" PRId64 " %" PRId64 "\n", a.refusal, a.value); }
+
 static void earth(void) {
     for (size_t i = 0; i + 3 < length / 8; i += 4) {
         int64_t a = number(i + 1), b = number(i + 2), c = number(i + 3);
         int64_t s = base_sine((uint32_t)a), cosine = base_cosine((uint32_t)a);
-        struct base_ticks t;
-        struct base_number tide;
-        struct base_angle angle;
+        struct fringe_ticks t;
+        struct fringe_angle angle;
+        struct fringe_epoch e;
         switch (number(i)) {
         case 1: printf("%" PRId64 "\n", s); break;
         case 2:
             t = base_arguments(a, b, c);
-            printf("%" PRId64 " %" PRId64, t.refusal, t.n);
-            for (int j = 0; j < 5; j++) printf(" %" PRIu32, t.argument[j]);
-            printf("\n");
+            printf("%" PRId64 " %" PRId64 " %" PRIu32 " %" PRIu32 " %" PRIu32 " %" PRIu32 " %" PRIu32 "\n", t.refusal, t.n, t.l, t.lp, t.f, t.d, t.om);
             break;
-        case 3: tide = base_tide(a, b, c), printf("%" PRId64 " %" PRId64 "\n", tide.refusal, tide.value); break;
+        case 3: answer(base_tide(a, b, c)); break;
         case 4: angle = base_angle_at(a, b), printf("%" PRId64 " %" PRId64 " %" PRIu32 "\n", angle.refusal, angle.e, angle.tick); break;
-        case 5:
-            if (!base_day_in_range(a) || !base_ms_in_range(b) || c < 0 || c > 14742000000) printf("2 0 0\n");
-            else printf("0 %" PRId64 " %" PRId64 "\n", a + (b + c) / 86400000, (b + c) % 86400000);
-            break;
+        case 5: e = base_later(a, b, c), printf("%" PRId64 " %" PRId64 " %" PRId64 "\n", e.refusal, e.day, e.ms); break;
         default: printf("%" PRId64 " %" PRId64 " 0 %" PRId64 " %" PRId64 " 0 0 0 1073741824\n", cosine, -s, s, cosine);
         }
     }
 }
 
 static void check(void) {
-    struct base_counts c = base_check(input, length);
-    printf("%" PRId64, c.refusal);
-    for (int i = 0; i < 4; i++) printf(" %" PRId64, c.count[i]);
-    printf("\n");
+    struct fringe_counts c = base_check(input, length);
+    printf("%" PRId64 " %" PRId64 " %" PRId64 " %" PRId64 " %" PRId64 "\n", c.refusal, c.stations, c.sources, c.days, c.passes);
 }
-
-static void answer(struct base_number a) { printf("%" PRId64 " %" PRId64 "\n", a.refusal, a.value); }
 
 static void write_file(void) {
     static int64_t numbers[4][4096];
@@ -75,7 +68,7 @@ static void delay(void) {
         int64_t a[6];
         for (size_t i = 0; i < 6; i++) a[i] = base_word(input, at + 8 * i);
         if (a[0] == 1) {
-            struct base_earth e = base_orientation(file, n, a[1], a[2]);
+            struct fringe_earth e = base_orientation(file, n, a[1], a[2]);
             printf("%" PRId64 " %" PRId64 " %" PRId64 " %" PRId64 " %" PRIu32 "\n", e.refusal, e.x, e.y, e.ut1_utc, e.tick);
         } else if (a[0] == 2) {
             answer(base_delay(file, n, a[1], a[2], a[3], a[4], a[5]));
@@ -87,13 +80,13 @@ static void delay(void) {
     }
 }
 
-static void tracks(int hulls) {
+static void tracks(void) {
     static int64_t samples[8200];
     for (size_t at = 0; at < length / 8;) {
         size_t n = (size_t)number(at + 1), m = (size_t)number(at + 3);
         for (size_t i = 0; i < n; i++) samples[i] = number(at + 4 + i);
         fill(m);
-        answer((hulls ? base_track_by_hulls : base_track_by_pairs)(samples, n, number(at + 2), room, m));
+        answer(base_track(samples, n, number(at + 2), room, m));
         for (size_t i = 0; i < m; i++) printf("%s%" PRId64, i ? " " : "", room[i]);
         printf("\n");
         at += 4 + n;
@@ -107,7 +100,7 @@ int main(int argc, char **argv) {
     else if (!strcmp(what, "check")) check();
     else if (!strcmp(what, "write")) write_file();
     else if (!strcmp(what, "delay")) delay();
-    else if (!strcmp(what, "pairs") || !strcmp(what, "hulls")) tracks(what[0] == 'h');
+    else if (!strcmp(what, "track")) tracks();
     else return 2;
     return 0;
 }

@@ -25,8 +25,8 @@ static int64_t line(struct day d, size_t field, int64_t ms) {
     return v0 + base_nearest((v1 - v0) * ms, 86400000);
 }
 
-static struct base_earth orientation_of(struct day d, int64_t ms, struct minute *kept) {
-    struct base_earth answer = {0, line(d, 1, ms), line(d, 2, ms), line(d, 3, ms), 0};
+static struct fringe_earth orientation_of(struct day d, int64_t ms, struct minute *kept) {
+    struct fringe_earth answer = {0, line(d, 1, ms), line(d, 2, ms), line(d, 3, ms), 0};
     int64_t day = base_word(d.today, 0), n = base_minutes(day, ms, base_word(d.today, 32)), e;
     if (n != kept->n) *kept = (struct minute){n, base_tide_at(n)};
     answer.ut1_utc += kept->tide;
@@ -54,7 +54,7 @@ static int64_t picoseconds(int64_t mm) {
     return mm < 0 ? size : -size;
 }
 
-static int64_t delay_of(struct wave w, struct base_earth at) {
+static int64_t delay_of(struct wave w, struct fringe_earth at) {
     struct place b = w.baseline;
     int64_t x = b.x - pole_shift(b.z, at.x), y = b.y + pole_shift(b.z, at.y);
     int64_t z = b.z + pole_shift(b.x, at.x) - pole_shift(b.y, at.y);
@@ -69,41 +69,41 @@ static int64_t lower(int64_t a, int64_t b) { return a == 0 || (b != 0 && b < a) 
 
 static const struct minute none = {INT64_MIN, 0};
 
-struct base_earth base_orientation(const uint8_t *file, size_t n, int64_t day, int64_t ms) {
+struct fringe_earth base_orientation(const uint8_t *file, size_t n, int64_t day, int64_t ms) {
     int in_range = base_day_in_range(day) && base_ms_in_range(ms);
     int64_t refusal = lower(base_check(file, n).refusal, in_range ? 0 : 2);
     if (refusal == 0 && !covered(two_days(file, day))) refusal = 6;
-    if (refusal != 0) return (struct base_earth){refusal, 0, 0, 0, 0};
+    if (refusal != 0) return (struct fringe_earth){refusal, 0, 0, 0, 0};
     struct minute kept = none;
     return orientation_of(two_days(file, day), ms, &kept);
 }
 
 static int is_id(int64_t name) { return 1 <= name && name <= 65535; }
 
-struct base_number base_delay(const uint8_t *file, size_t n, int64_t station1, int64_t station2, int64_t source, int64_t day, int64_t ms) {
+struct fringe_number base_delay(const uint8_t *file, size_t n, int64_t station1, int64_t station2, int64_t source, int64_t day, int64_t ms) {
     int in_range = is_id(station1) && is_id(station2) && is_id(source) && base_day_in_range(day) && base_ms_in_range(ms);
     int64_t refusal = lower(base_check(file, n).refusal, in_range ? 0 : 2);
-    if (refusal != 0) return (struct base_number){refusal, 0};
+    if (refusal != 0) return (struct fringe_number){refusal, 0};
     const uint8_t *one = named(file, 0, station1), *two = named(file, 0, station2), *star = named(file, 1, source);
     struct day d = two_days(file, day);
     struct minute kept = none;
-    if (one == NULL || two == NULL || star == NULL) return (struct base_number){5, 0};
-    if (!covered(d)) return (struct base_number){6, 0};
-    return (struct base_number){0, delay_of(wave_of(one, two, star), orientation_of(d, ms, &kept))};
+    if (one == NULL || two == NULL || star == NULL) return (struct fringe_number){5, 0};
+    if (!covered(d)) return (struct fringe_number){6, 0};
+    return (struct fringe_number){0, delay_of(wave_of(one, two, star), orientation_of(d, ms, &kept))};
 }
 
-struct base_number base_samples(const uint8_t *file, size_t n, uint64_t pass, int64_t *room, size_t m) {
-    struct base_counts counts = base_check(file, n);
-    if (counts.refusal != 0) return (struct base_number){counts.refusal, 0};
-    if (pass >= (uint64_t)counts.count[3]) return (struct base_number){5, 0};
+struct fringe_number base_samples(const uint8_t *file, size_t n, uint64_t pass, int64_t *room, size_t m) {
+    struct fringe_counts counts = base_check(file, n);
+    if (counts.refusal != 0) return (struct fringe_number){counts.refusal, 0};
+    if (pass >= (uint64_t)counts.passes) return (struct fringe_number){5, 0};
     const uint8_t *planned = file + base_word(file, 88) + 64 * pass;
     const uint8_t *one = named(file, 0, base_word(planned, 0)), *two = named(file, 0, base_word(planned, 8));
     const uint8_t *star = named(file, 1, base_word(planned, 16));
-    if (one == NULL || two == NULL || star == NULL) return (struct base_number){5, 0};
+    if (one == NULL || two == NULL || star == NULL) return (struct fringe_number){5, 0};
     int64_t day = base_word(planned, 24), ms = base_word(planned, 32), step = base_word(planned, 40);
     int64_t samples = base_word(planned, 48), last = day + (ms + (samples - 1) * step) / 86400000;
-    if (!covered(two_days(file, day)) || !covered(two_days(file, last))) return (struct base_number){6, 0};
-    if ((size_t)samples > m) return (struct base_number){7, 0};
+    if (!covered(two_days(file, day)) || !covered(two_days(file, last))) return (struct fringe_number){6, 0};
+    if ((size_t)samples > m) return (struct fringe_number){7, 0};
     struct wave wave = wave_of(one, two, star);
     struct day d = two_days(file, day);
     struct minute kept = none;
@@ -114,5 +114,5 @@ struct base_number base_samples(const uint8_t *file, size_t n, uint64_t pass, in
         }
         room[i] = delay_of(wave, orientation_of(d, ms, &kept));
     }
-    return (struct base_number){0, samples};
+    return (struct fringe_number){0, samples};
 }

@@ -1,4 +1,4 @@
-/* Document 01, 'Track', in two ways. Both keep the least and the greatest rate that fit the samples seen so far of a segment. */
+/* Document 01, 'Track': the least and the greatest rate that fit the samples seen so far of a segment, by the convex hulls of the band's two edges. */
 #include "baseline.h"
 
 #define UNIT 65536
@@ -6,29 +6,13 @@
 
 struct segment { int64_t count, rate; };
 
+static int64_t ceiling(int64_t a, int64_t b) { return a / b + (a % b > 0); }
+
 static int64_t refusal_of(const int64_t *samples, size_t n, int64_t tolerance) {
     if (n < 1 || n > 4096 || tolerance < 0 || tolerance > 1000000) return 2;
     for (size_t i = 0; i < n; i++)
         if (samples[i] < -130000000000 || samples[i] > 130000000000) return 2;
     return 0;
-}
-
-/* The longest segment from the first sample: for each new sample the pairs with all before it. */
-static struct segment longest_by_pairs(const int64_t *s, int64_t n, int64_t tolerance) {
-    int64_t least = INT64_MIN, greatest = INT64_MAX;
-    for (int64_t k = 1; k < n; k++) {
-        int64_t new_least = least, new_greatest = greatest;
-        for (int64_t j = 0; j < k; j++) {
-            int64_t low = base_ceiling(UNIT * (s[k] - s[j] - 2 * tolerance), k - j);
-            int64_t high = base_floor(UNIT * (s[k] - s[j] + 2 * tolerance), k - j);
-            if (low > new_least) new_least = low;
-            if (high < new_greatest) new_greatest = high;
-        }
-        if (new_least > new_greatest) return (struct segment){k, least};
-        least = new_least;
-        greatest = new_greatest;
-    }
-    return (struct segment){n, n == 1 ? 0 : least};
 }
 
 /* One edge of the band as a convex chain from below, in ps: the upper edge, or the lower edge with all signs turned. A line to a later sample
@@ -49,11 +33,12 @@ static void add(struct chain *c, int64_t x, int64_t y) {
 /* The least whole rate of a line from the chain to a point right of it that nowhere passes over the chain, or `least` where that is more. */
 static int64_t steepest(struct chain *c, int64_t x, int64_t y, int64_t least) {
     while (c->first + 1 < c->end && above(c, c->first, x, y)) c->first++;
-    int64_t rate = base_ceiling(UNIT * (y - c->y[c->first]), x - c->x[c->first]);
+    int64_t rate = ceiling(UNIT * (y - c->y[c->first]), x - c->x[c->first]);
     return rate > least ? rate : least;
 }
 
-static struct segment longest_by_hulls(const int64_t *s, int64_t n, int64_t tolerance) {
+/* The longest segment from the first sample. */
+static struct segment longest(const int64_t *s, int64_t n, int64_t tolerance) {
     static struct chain upper, lower;
     int64_t least = INT64_MIN, greatest = INT64_MIN; /* the greatest rate with its sign turned */
     upper.first = upper.end = lower.first = lower.end = 0;
@@ -80,21 +65,19 @@ static int64_t least_offset(const int64_t *s, struct segment g, int64_t toleranc
     return offset;
 }
 
-typedef struct segment longest(const int64_t *, int64_t, int64_t);
-
-static struct segment from(longest *find, const int64_t *samples, size_t n, size_t start, int64_t tolerance) {
+static struct segment from(const int64_t *samples, size_t n, size_t start, int64_t tolerance) {
     size_t left = n - start;
-    return find(samples + start, (int64_t)(left < LONGEST ? left : LONGEST), tolerance);
+    return longest(samples + start, (int64_t)(left < LONGEST ? left : LONGEST), tolerance);
 }
 
 /* The segments are kept until their number is known, since a refused call leaves the room as it was. */
-static struct base_number track(longest *find, const int64_t *samples, size_t n, int64_t tolerance, int64_t *room, size_t m) {
+struct fringe_number base_track(const int64_t *samples, size_t n, int64_t tolerance, int64_t *room, size_t m) {
     static struct segment found[4096];
     size_t count = 0, first = 0;
-    if (refusal_of(samples, n, tolerance) != 0) return (struct base_number){2, 0};
+    if (refusal_of(samples, n, tolerance) != 0) return (struct fringe_number){2, 0};
     for (size_t start = 0; start < n; start += (size_t)found[count++].count) {
-        if (count == m / 4) return (struct base_number){8, 0};
-        found[count] = from(find, samples, n, start, tolerance);
+        if (count == m / 4) return (struct fringe_number){8, 0};
+        found[count] = from(samples, n, start, tolerance);
     }
     for (size_t i = 0; i < count; i++) {
         room[4 * i] = (int64_t)first;
@@ -103,13 +86,5 @@ static struct base_number track(longest *find, const int64_t *samples, size_t n,
         room[4 * i + 3] = found[i].rate;
         first += (size_t)found[i].count;
     }
-    return (struct base_number){0, (int64_t)count};
-}
-
-struct base_number base_track_by_pairs(const int64_t *samples, size_t n, int64_t tolerance, int64_t *room, size_t m) {
-    return track(longest_by_pairs, samples, n, tolerance, room, m);
-}
-
-struct base_number base_track_by_hulls(const int64_t *samples, size_t n, int64_t tolerance, int64_t *room, size_t m) {
-    return track(longest_by_hulls, samples, n, tolerance, room, m);
+    return (struct fringe_number){0, (int64_t)count};
 }

@@ -7,6 +7,7 @@ from collections import Counter
 import generate
 from lines import line, text
 from reference import delay, earth, session
+from reference.selftest import small_session
 
 ORIENTATION, DELAY, SAMPLES = 1, 2, 3
 FILLED = 6_148_914_691_236_517_205
@@ -77,6 +78,20 @@ def questions_of(numbers, file):
     if session.refusal(file):
         return QUESTIONS_OF_A_REFUSED_FILE
     return list(questions_of_lists(numbers, session.sections_of(file)))
+
+
+def short():
+    questions = [
+        (ORIENTATION, 51_544, 43_200_000, 0, 0, 0),
+        (ORIENTATION, 51_545, 0, 0, 0, 0),
+        (ORIENTATION, 51_544, 86_400_000, 0, 0, 0),
+        (DELAY, 1, 1, 1, 51_544, 0),
+        (DELAY, 1, 2, 1, 51_544, 0),
+        (SAMPLES, 0, 5, 0, 0, 0),
+        (SAMPLES, 0, 2, 0, 0, 0),
+        (SAMPLES, 1, 2, 0, 0, 0),
+    ]
+    return stdin_of(small_session(), questions)
 
 
 def inputs(seed=5_105):

@@ -105,6 +105,10 @@ def stdin_of(made):
     return b"".join(struct.pack("<4q", *case) for case in made)
 
 
+def short():
+    return stdin_of([*document_cases(), *edge_cases()])
+
+
 def inputs():
     return [stdin_of(cases())]
 

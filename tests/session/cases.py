@@ -4,6 +4,7 @@ import features
 import generate
 from lines import line, text
 from reference import session
+from reference.selftest import small_session
 
 
 def records_printed(file, place):
@@ -23,6 +24,10 @@ def printed(file):
     for place in range(4):
         made += records_printed(file, place)
     return text(made)
+
+
+def short():
+    return small_session()
 
 
 def inputs():

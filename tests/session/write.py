@@ -7,6 +7,7 @@ from collections import Counter
 import generate
 from lines import line, text
 from reference import session
+from reference.selftest import small_session
 
 FILLED = 165
 
@@ -60,6 +61,10 @@ def write_cases(files, seed=4_104):
             change = numbers.choice((None, None, None, ragged, miscounted))
             room = numbers.choice((len(file), len(file), len(file) + numbers.randint(1, 40), len(file) - 1, 0, 15_000))
             yield (change(numbers, flats) if change else flats, room)
+
+
+def short():
+    return write_input(flats_of(small_session()), 310)
 
 
 def inputs():

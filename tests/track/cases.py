@@ -123,6 +123,12 @@ def cases(seed=6_106, tracks=1_500):
     ]
 
 
+def short():
+    from . import lent
+
+    return stdin_of([*document_cases(), *list(refused_track_cases())[:17], *lent.cases(random.Random(9), 40)])
+
+
 def inputs():
     return [stdin_of(cases())]
 

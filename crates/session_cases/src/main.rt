@@ -1,22 +1,11 @@
-// Session files, each behind its length: the answers of `check` and `fault`, and the first record of each section. Then the writer.
-ghost use mathlib.Core.Path.{_≡_};
-ghost use lib.IntN.{natAbs};
-
-fn magnitude(n: i64) -> u64
-    ensures { λ r. ⌜ r ≡ natAbs n ⌝ }
-{
-    if n < 0 {
-        (0 - (n + 1)) as u64 + 1
-    } else {
-        n as u64
-    }
-}
+// Session files, each behind its length: the answers of `check` and `fault`, and records 0 and 63 of each section. Then the writer.
+use whole::sign::size;
 
 fn show(n: i64) {
     if n < 0 {
         io::write_all(1, b"-");
     }
-    io::print_decimal(1, magnitude(n));
+    io::print_decimal(1, size(n));
     io::write_all(1, b" ");
 }
 
