@@ -11,6 +11,6 @@ number v = record { refusal = pos 0; value = v }
 abbrev pub noNumber : ℕ → Number
 noNumber n = record { refusal = pos n; value = pos 0 }
 
--- the value where nothing applies, which is 0, and else the number that does
+-- the value where n is 0, which says that no refusal applies, and else the refusal n
 unfoldable pub answerBy : ℕ → ℤ → Number
 answerBy n v = cond (eqb n 0) (number v) (noNumber n)
