@@ -7,7 +7,7 @@ use native.Mathlib.Omega.{arith}
 use lib.Dec.{ltb, leb, ltb→lt, nltb→le, leb→le, le→leb}
 use lib.IntN.{ℤ, pos, negsuc, negℤ, subℕ, _+ℤ_, _-ℤ_, _*ℤ_}
 use lib.Signed.{_≤ℤ_}
-use Rattle.whole.specs.Whole.{posPart, ∣_∣}
+use Rattle.whole.specs.Whole.{∣_∣}
 use Rattle.fit.proofs.Tests.{by-test}
 
 -- a difference is a natural, or less than 0

@@ -1,6 +1,6 @@
 -- Our own track: it is always well-formed, covers every sample, and predicts each within the tolerance.
 use mathlib.Core.Path.{_≡_, refl, sym, ap, subst, _∙_}
-use mathlib.Core.Bool.{true, _&&_}
+use mathlib.Core.Bool.{true}
 use mathlib.Core.List.{List, _∷_}
 use mathlib.Core.Logic.{⊎-elim}
 use Prim.Native.Nat.{ℕ, _+_, _*_, _-_, _≤_, _<_}
@@ -24,7 +24,7 @@ use Rattle.whole.proofs.Each.{below-all}
 use Rattle.whole.proofs.Tests.{and-yes}
 use Rattle.track.proofs.Ranged.{ranged}
 use Rattle.track.proofs.Theorems.{trackOf-ruled}
-use Rattle.predict.specs.Lent.{Lent, lentOf, predicted, placeOk, lengthOk, rangeOk, predictionsOk, segmentOk, soundFrom, answerAt, predictOutcome}
+use Rattle.predict.specs.Lent.{Lent, lentOf, predicted, placeOk, lengthOk, predictionsOk, segmentOk, soundFrom, answerAt, predictOutcome}
 use Rattle.predict.specs.Ends.{reach}
 use Rattle.predict.proofs.Reach.{round-reach}
 use Rattle.predict.proofs.Numbers.{Good, good, covered, passed}

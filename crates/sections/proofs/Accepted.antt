@@ -1,20 +1,17 @@
 -- What the refusal says: the five conditions by the walk over the words, and the four tests by the number. Assumes nothing.
-use mathlib.Core.Path.{_≡_, refl, sym, ap, _∙_}
+use mathlib.Core.Path.{_≡_, refl, sym, _∙_}
 use Prim.Native.Nat.{ℕ, zero, suc, _+_, _*_, _/_, _%_, _≤_, _<_}
 use native.Mathlib.Omega.{arith}
 use native.Mathlib.Decide.{decLt}
-use mathlib.Core.Bool.{Bool, true, false, _&&_, cond}
-use mathlib.Core.List.{List, []}
-use lib.ListN.{length}
-use lib.Dec.{eqb, ltb}
-use borrow.Author.Tests.{eq-eqb, eqb-true, lt-ltb, le-ltb, ne-eqb}
+use mathlib.Core.Bool.{Bool, true, false, cond}
+use mathlib.Core.List.{List}
+use borrow.Author.Tests.{lt-ltb, le-ltb, ne-eqb}
 use Rattle.whole.specs.Each.{allBelow, firstNot}
 use Rattle.sections.specs.Layouts.{rising, consecutive}
-use Rattle.sections.specs.File.{sectionsRight, kindRight, offsetRight, countRight, lengthRight, kindsRight, countsRight, offsetsRight, contentsRight, sectionRight, rangesRight, orderRight, idsRight, daysRight, refusalOf}
+use Rattle.sections.specs.File.{kindRight, offsetRight, countRight, lengthRight, contentsRight, sectionRight, rangesRight, orderRight, idsRight, daysRight, refusalOf}
 use Rattle.sections.specs.Code.{testPassed, firstFailed}
 use Rattle.sections.specs.Table.{entryRight, wordRight, wrongWord}
-use Rattle.whole.proofs.Linear.{and-true, no-ft}
-use Rattle.whole.proofs.Tests.{and-yes, same-test}
+use Rattle.whole.proofs.Tests.{and-yes}
 use Rattle.whole.proofs.Each.{below-each, below-all, all-none, none-all, first-most, some-first, all-past}
 use Rattle.sections.proofs.Walk.{entry-words}
 use Rattle.sections.proofs.Sound.{five}

@@ -1,16 +1,15 @@
 -- Tests on whole numbers, as the code makes them. Assumes nothing.
-use mathlib.Core.Path.{_≡_, refl, sym, ap, _∙_, subst}
-use Prim.Native.Nat.{ℕ, zero, suc, _+_, _-_, _*_, _^_, _≤_, _<_}
+use mathlib.Core.Path.{_≡_, refl}
+use Prim.Native.Nat.{ℕ, _+_, _-_, _≤_, _<_}
 use native.Mathlib.Omega.{arith}
 use mathlib.Core.Bool.{Bool, true, false, _&&_, and-true as and-right-true}
-use lib.IntN.{ℤ, pos, negsuc, negℤ, _+ℤ_, _-ℤ_}
+use lib.IntN.{ℤ, pos, _+ℤ_, _-ℤ_}
 use lib.Signed.{leZ, ltZ}
-use lib.Dec.{T, leb, ltb, eqb}
 use borrow.Author.Tests.{ne-eqb}
 use mir.Syntax.{w64}
 use mir.Val.{SFits}
-use Rattle.whole.specs.Whole.{posPart, negPart, ∣_∣}
-use Rattle.whole.proofs.Linear.{zarith, add-law, sub-lawℤ, leZ-true, leZ-false, ltZ-true, ltZ-false, ⇒leZ, ⇒ltZ, ⇒eq, fits-posPart, fits-negPart, ⇒sfits, and-true, no-ft}
+use Rattle.whole.specs.Whole.{posPart, negPart}
+use Rattle.whole.proofs.Linear.{add-law, sub-lawℤ, leZ-true, leZ-false, ⇒leZ, ⇒ltZ, ⇒eq, fits-posPart, fits-negPart, ⇒sfits, and-true}
 use Rattle.sections.specs.File.{eqZ, steps}
 use Rattle.whole.proofs.Tests.{is-true, and-yes, same-test}
 

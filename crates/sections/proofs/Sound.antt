@@ -4,19 +4,19 @@ use Prim.Native.Nat.{ℕ, zero, suc, _+_, _-_, _*_, _≤_, _<_}
 use native.Mathlib.Nat.{add-zero, add-suc, mul-le-mul-left}
 use native.Mathlib.Numerals.{add-one-le}
 use native.Mathlib.Omega.{arith}
-use mathlib.Core.Bool.{Bool, true, false, _&&_}
+use mathlib.Core.Bool.{true, _&&_}
 use mathlib.Core.List.{List, _++_, map}
 use lib.ListN.{length, getD, length-map, replicate, List·getD-append, List·getD-map}
 use lib.Seq.{getD-take}
 use lib.IntN.{ℤ, pos}
 use lib.Signed.{leZ}
-use lib.Dec.{leb, ltb, eqb}
+use lib.Dec.{leb}
 use borrow.Author.Tests.{leb-true, ltb-true, eqb-true}
-use Rattle.whole.specs.Each.{allBelow, firstNot}
+use Rattle.whole.specs.Each.{firstNot}
 use Rattle.sections.specs.Words.{numberAt}
-use Rattle.sections.specs.Layouts.{Range, range, Layout, standsIn}
+use Rattle.sections.specs.Layouts.{Range, range, standsIn}
 use Rattle.sections.specs.Code.{padded, shapeOf, insideBy, recordBy, stepBy}
-use Rattle.sections.specs.File.{present, layoutOf, sizeOf, countOf, kindOf, firstByte, startOf, sectionsRight, kindRight, offsetRight, countRight, lengthRight, kindsRight, countsRight, offsetsRight, contentsRight, recordByte, fieldAt, rangeOf, fieldRight, recordRight, steps, stepRight}
+use Rattle.sections.specs.File.{present, layoutOf, sizeOf, countOf, kindOf, firstByte, startOf, sectionsRight, kindRight, offsetRight, countRight, lengthRight, kindsRight, countsRight, offsetsRight, contentsRight, recordByte, fieldAt, fieldRight, recordRight, steps, stepRight}
 use Rattle.whole.proofs.Linear.{and-true}
 use Rattle.whole.proofs.Each.{below-each, first-same, all-same}
 use Rattle.sections.proofs.Shapes.{size-small, stands-some}

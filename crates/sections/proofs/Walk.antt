@@ -1,18 +1,16 @@
 -- The walk over the contents table. Assumes nothing.
-use mathlib.Core.Path.{_≡_, refl, sym, ap, _∙_}
-use Prim.Native.Nat.{ℕ, zero, suc, _+_, _-_, _*_, _/_, _%_, _≤_, _<_}
-use mathlib.Core.Bool.{Bool, true, false, _&&_, cond}
+use mathlib.Core.Path.{_≡_, refl, sym}
+use Prim.Native.Nat.{ℕ, suc, _+_, _-_, _*_, _/_, _%_, _≤_, _<_}
+use mathlib.Core.Bool.{Bool, true, false, cond}
 use mathlib.Core.List.{List}
 use lib.ListN.{length}
-use lib.Dec.{leb, ltb, eqb}
+use lib.Dec.{leb}
 use native.Mathlib.Omega.{arith}
 use native.Mathlib.Decide.{decLt}
 use mathlib.Core.Logic.{_⊎_, inl, inr, ⊎-elim}
-use native.Mathlib.Numerals.{add-one}
-use borrow.Author.Tests.{leb-true, lt-ltb, le-ltb}
+use borrow.Author.Tests.{leb-true, lt-ltb}
 use Rattle.whole.proofs.Products.{below}
 use Rattle.whole.specs.Each.{firstNot}
-use Rattle.sections.specs.Layouts.{layoutIn}
 use Rattle.sections.specs.File.{present, layoutOf, sizeOf, countOf, kindOf, sectionsRight, kindRight, offsetRight, countRight, lengthRight}
 use Rattle.sections.specs.Table.{entryRight, wordRight, wrongWord}
 use Rattle.whole.proofs.Linear.{and-true}

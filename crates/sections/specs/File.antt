@@ -1,7 +1,7 @@
 -- Document 01, 'Session file' and 'Refusal numbers' 1 to 4: what a file of bytes says, and when it is refused.
 -- Places count from 0: stations 0, sources 1, orientation days 2, passes 3.
 use Prim.Native.Nat.{ℕ, zero, suc, _+_, _-_, _*_}
-use mathlib.Core.Bool.{Bool, true, false, _&&_, cond}
+use mathlib.Core.Bool.{Bool, _&&_, cond}
 use mathlib.Core.List.{List}
 use lib.ListN.{length, getD}
 use lib.IntN.{ℤ, pos, _+ℤ_}

@@ -5,7 +5,7 @@ ghost use Prim.Native.Nat.{_+_, _*_, _<_, _≤_};
 ghost use lib.ListN.{length};
 ghost use Rattle.whole.specs.Each.{firstNot};
 ghost use Rattle.sections.specs.Code.{insideBy, recordBy};
-ghost use Rattle.sections.specs.File.{contentsRight, countOf, sizeOf, fieldRight, recordRight, sectionRight};
+ghost use Rattle.sections.specs.File.{contentsRight, countOf, recordRight, sectionRight};
 use crate::contents::layout_of;
 use crate::words::number_at;
 use crate::words::word_at;

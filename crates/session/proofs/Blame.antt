@@ -1,17 +1,17 @@
 -- The fault is where it says: it gives `check`'s number, the place that it names is wrong, and all before it is right. Assumes nothing.
 use mathlib.Core.Path.{_≡_, refl, sym, ap, _∙_}
-use Prim.Native.Nat.{ℕ, zero, suc, _+_, _-_, _*_, _≤_, _<_}
+use Prim.Native.Nat.{ℕ, zero, suc, _-_, _≤_, _<_}
 use native.Mathlib.Omega.{arith}
 use native.Mathlib.Decide.{ℕ-discrete}
-use mathlib.Core.Bool.{Bool, true, false, cond}
+use mathlib.Core.Bool.{Bool, true, false}
 use mathlib.Core.List.{List}
-use lib.IntN.{ℤ, pos}
+use lib.IntN.{pos}
 use Rattle.whole.specs.Each.{firstNot, allBelow, implies}
 use lib.Dec.{eqb}
 use Rattle.sections.specs.Layouts.{rising, consecutive}
-use Rattle.sections.specs.File.{sectionRight, recordRight, fieldRight, orderRight, stepRight, countOf, sizeOf, refusalOf, contentsRight, rangesRight, idsRight, daysRight, kindOf, layoutOf, lengthRight}
+use Rattle.sections.specs.File.{sectionRight, recordRight, fieldRight, orderRight, stepRight, countOf, sizeOf, refusalOf, contentsRight, rangesRight, idsRight, daysRight, layoutOf, lengthRight}
 use Rattle.session.specs.declared.Counts.{Counts}
-use Rattle.session.specs.Records.{checkOf, countsIn, noCounts}
+use Rattle.session.specs.Records.{checkOf}
 use Rattle.sections.specs.Table.{wordRight, wrongWord}
 use Rattle.sections.proofs.Accepted.{byTests, refusal-most}
 use Rattle.sections.proofs.Walk.{wrong-is, wrong-length-is}

@@ -1,9 +1,9 @@
 -- Which layout stands in each place of a file whose contents table is right, and the fields as the code reads them. Assumes nothing.
-use mathlib.Core.Path.{_≡_, refl, sym, ap, _∙_}
-use Prim.Native.Nat.{ℕ, _+_, _*_, _^_, _≤_, _<_}
+use mathlib.Core.Path.{_≡_, sym, ap, _∙_}
+use Prim.Native.Nat.{ℕ, _+_, _*_, _^_, _<_}
 use native.Mathlib.Nat.{add-zero}
 use native.Mathlib.Omega.{arith}
-use mathlib.Core.Bool.{Bool, true, not}
+use mathlib.Core.Bool.{not}
 use mathlib.Core.List.{List}
 use lib.ListN.{length}
 use lib.IntN.{ℤ}
@@ -14,7 +14,7 @@ use Rattle.whole.proofs.Linear.{ret}
 use Rattle.whole.specs.Each.{firstNot}
 use Rattle.sections.specs.Words.{numberAt}
 use Rattle.sections.specs.Layouts.{Layout, station, source, orientation, pass}
-use Rattle.sections.specs.File.{contentsRight, kindOf, layoutOf, sizeOf, firstByte, countOf, recordByte, fieldAt, eqZ, refusalOf}
+use Rattle.sections.specs.File.{kindOf, layoutOf, sizeOf, firstByte, countOf, recordByte, eqZ, refusalOf}
 use Rattle.sections.specs.Code.{otherBy}
 use Rattle.session.specs.Records.{placeBy}
 use Rattle.whole.proofs.Each.{first-same}

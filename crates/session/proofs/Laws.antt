@@ -1,26 +1,23 @@
 -- Laws of a file that is accepted, for the crates above: each field is in its range, ids rise, day i is the first day plus i,
 -- and what a look-up finds. Assumes nothing.
-use mathlib.Core.Path.{_≡_, refl, sym, ap, _∙_, subst}
-use Prim.Native.Nat.{ℕ, zero, suc, _+_, _-_, _*_, _≤_, _<_}
-use native.Mathlib.Nat.{add-zero, add-suc}
+use mathlib.Core.Path.{_≡_, refl, sym, ap, _∙_}
+use Prim.Native.Nat.{ℕ, zero, suc, _+_, _-_, _≤_, _<_}
 use native.Mathlib.Numerals.{add-one}
 use native.Mathlib.Omega.{arith}
-use native.Mathlib.Decide.{decLt}
-use mathlib.Core.Bool.{Bool, true, false, not, cond, _&&_}
+use mathlib.Core.Bool.{Bool, true, false, not, cond}
 use mathlib.Core.List.{List}
-use lib.ListN.{length, getD}
-use lib.IntN.{ℤ, pos, negsuc, negℤ, _+ℤ_, _-ℤ_}
+use lib.IntN.{ℤ, pos, negsuc, negℤ, _+ℤ_}
 use lib.Signed.{leZ, ltZ}
-use lib.Dec.{eqb, ltb}
+use lib.Dec.{ltb}
 use mir.Syntax.{w64}
 use mir.Val.{SFits}
-use borrow.Author.Tests.{lt-ltb, le-ltb, ltb-true, eqb-true, eq-eqb}
+use borrow.Author.Tests.{lt-ltb, le-ltb, ltb-true, eq-eqb}
 use Rattle.whole.specs.Whole.{posPart, negPart, ∣_∣}
 use Rattle.whole.proofs.Linear.{add-law, ltZ-true, leZ-true, ⇒eq, eq⇒, posPart-neg, negPart-neg, and-true, no-ft}
-use Rattle.whole.specs.Each.{allBelow, firstNot, implies}
-use Rattle.sections.specs.Layouts.{Range, range, eitherSide, Layout, station, source, orientation, pass, rising, consecutive}
+use Rattle.whole.specs.Each.{allBelow}
+use Rattle.sections.specs.Layouts.{range, eitherSide, Layout, station, source, orientation, pass, rising, consecutive}
 use Rattle.sections.specs.File.{refusalOf, countOf, sizeOf, layoutOf, rangeOf, fieldAt, inside, eqZ, rangesRight, sectionRight, recordRight, fieldRight, steps, stepRight, orderRight}
-use Rattle.whole.proofs.Each.{below-each, first-hit, all-none, below-all, none-all, first-fails, first-before, first-most}
+use Rattle.whole.proofs.Each.{below-each, first-hit, all-none, below-all, first-fails}
 use Rattle.sections.proofs.Numbers.{steps-rising, steps-consecutive, eqZ-true, eqZ-refl}
 use Rattle.sections.proofs.Accepted.{accepted-contents, accepted-ranges, accepted-ids, accepted-days}
 use Rattle.session.specs.declared.Station.{Station}

@@ -1,15 +1,14 @@
 -- How far a number is past a natural one that it is not below, as the code computes it. Assumes nothing.
-use mathlib.Core.Path.{_≡_, refl, sym, ap, ap₂, _∙_}
-use Prim.Native.Nat.{ℕ, suc, _+_, _-_, _^_, _≤_, _<_}
+use mathlib.Core.Path.{_≡_, ap, ap₂, _∙_}
+use Prim.Native.Nat.{ℕ, _+_, _-_, _^_, _<_}
 use native.Mathlib.Omega.{arith}
-use mathlib.Core.Bool.{Bool, true, false}
+use mathlib.Core.Bool.{false}
 use lib.IntN.{ℤ, pos, negsuc, natAbs, _+ℤ_, _-ℤ_}
 use lib.Signed.{ltZ, nonNeg}
 use lib.Dec.{T}
 use mir.Syntax.{w64}
 use mir.Val.{SFits, Fits, toZ, ofZ}
 use mir.Facts.{toZ-ofZ}
-use Rattle.whole.specs.Whole.{posPart, negPart}
 use Rattle.whole.proofs.Linear.{ltZ-false, sub-lawℤ, add-law, ⇒eq, fits-posPart}
 
 -- z is `far` past a

@@ -1,7 +1,7 @@
 -- The place at which the number that `check` gives arises first. Document 01, 'Refusal numbers'.
 use Prim.Native.Nat.{ℕ, zero, suc, _+_, _-_}
 use mathlib.Core.List.{List}
-use lib.IntN.{ℤ, pos}
+use lib.IntN.{pos}
 use Rattle.whole.specs.Each.{firstNot}
 use Rattle.sections.specs.Table.{wrongWord}
 use Rattle.sections.specs.Layouts.{rising, consecutive}

@@ -1,6 +1,6 @@
 -- The answers of the calls that read a session file. Document 01, 'Session file' and 'Refusal numbers' 1 to 5.
-use Prim.Native.Nat.{ℕ, _+_, _-_, _*_}
-use mathlib.Core.Bool.{Bool, true, false, not, cond}
+use Prim.Native.Nat.{ℕ}
+use mathlib.Core.Bool.{not, cond}
 use mathlib.Core.List.{List}
 use lib.IntN.{ℤ, pos}
 use lib.Dec.{ltb, eqb}

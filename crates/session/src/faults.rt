@@ -4,7 +4,7 @@ ghost use mathlib.Core.Bool.{true};
 ghost use Prim.Native.Nat.{_+_, _-_, _<_, _≤_};
 ghost use lib.IntN.{pos};
 ghost use Rattle.whole.specs.Each.{firstNot};
-ghost use Rattle.sections.specs.File.{contentsRight, countOf, sizeOf, kindOf, fieldRight, recordRight, stepRight};
+ghost use Rattle.sections.specs.File.{contentsRight, countOf, sizeOf, kindOf, fieldRight, recordRight};
 ghost use Rattle.session.specs.Fault.{rangeFault, orderFault};
 use crate::Place;
 use sections::contents::layout_of;

@@ -1,7 +1,6 @@
 // The records of a file that is accepted: by their place in their section, and by their id or day.
 ghost use mathlib.Core.Path.{_≡_};
-ghost use mathlib.Core.Bool.{not};
-ghost use Prim.Native.Nat.{ℕ, _+_, _*_, _<_, _≤_};
+ghost use Prim.Native.Nat.{_+_, _*_, _<_, _≤_};
 ghost use lib.ListN.{length};
 ghost use Rattle.whole.specs.Each.{firstNot};
 ghost use Rattle.sections.specs.Words.{numberAt};

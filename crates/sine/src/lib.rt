@@ -1,7 +1,7 @@
 use whole::sign::with_sign;
 ghost use mathlib.Core.Path.{_≡_};
 ghost use mathlib.Core.Bool.{cond};
-ghost use Prim.Native.Nat.{_+_, _*_, _-_, _/_, _%_, _^_, _≤_, _<_};
+ghost use Prim.Native.Nat.{_*_, _-_, _/_, _%_, _^_, _≤_, _<_};
 ghost use Rattle.sine.specs.Sine.{yOf, zOf, stepOf, S, sineOf, cosineOf};
 
 // The argument of S in radians, scaled by 2^30.

@@ -6,7 +6,7 @@ use mathlib.Core.Bool.{true, false, _&&_}
 use Prim.Native.Nat.{ℕ, _+_, _*_, _^_, _≤_, _<_}
 use native.Mathlib.Omega.{arith}
 use lib.IntN.{ℤ, pos, negsuc, _+ℤ_, _-ℤ_, _*ℤ_}
-use lib.Signed.{_≤ℤ_, _<ℤ_, leZ}
+use lib.Signed.{leZ}
 use Rattle.whole.specs.Whole.{posPart, negPart, ∣_∣, floorZ, modZ}
 use Rattle.whole.proofs.Linear.{abs-mul≤, leZ-true, leZ-false, and-true}
 use Rattle.whole.proofs.Quote.{⟨_⟩, #, _⊕_, _⊝_, _⊗_, bal, by≡, of≡}

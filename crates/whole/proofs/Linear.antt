@@ -2,16 +2,15 @@
 -- equation is one statement of them, so a linear goal over ℤ is one `omega` with the laws of the sums that it names in the list.
 use mathlib.Core.Path.{_≡_, refl, sym, ap, _∙_, subst}
 use mathlib.Core.Bool.{Bool, true, false, cond, _&&_}
-use mathlib.Core.Logic.{_⊎_, inl, inr}
-use Prim.Native.Nat.{ℕ, zero, suc, _+_, _*_, _-_, _/_, _%_, _^_, _≤_, _<_}
+use Prim.Native.Nat.{ℕ, zero, suc, _+_, _*_, _-_, _/_, _^_, _≤_, _<_}
 use native.Mathlib.Omega.{arith}
 use native.Mathlib.Nat.{lt-of-le-of-lt, div-le-self, mul-le-mul, mul-le-mul-left}
-use lib.IntN.{ℤ, pos, negsuc, negℤ, natAbs, subℕ, _+ℤ_, _-ℤ_, _*ℤ_}
+use lib.IntN.{ℤ, pos, negsuc, negℤ, subℕ, _+ℤ_, _-ℤ_, _*ℤ_}
 use lib.Dec.{T, ltb, leb, ltb→lt, lt→ltb, leb→le, le→leb}
-use lib.Signed.{mag, ltZ, leZ, _≤ℤ_, _<ℤ_, quotZ, remZ}
-use borrow.Author.Tests.{ltb-true, ltb-false, leb-true, leb-false, lt-ltb, le-ltb, le-leb, lt-leb}
+use lib.Signed.{mag, ltZ, leZ, _≤ℤ_, _<ℤ_, quotZ}
+use borrow.Author.Tests.{ltb-true, ltb-false, leb-false}
 use mir.Syntax.{w64}
-use mir.Val.{SFits, hbits, toZ, ofZ}
+use mir.Val.{SFits, toZ, ofZ}
 use mir.Facts.{toZ-ofZ}
 use Rattle.whole.specs.Whole.{posPart, negPart, ∣_∣}
 use Rattle.whole.specs.Ranges.{In}

@@ -4,15 +4,15 @@
 -- and `is` says that the machine's number is the meant one: `ok e tt`, `is e tt`.
 use mathlib.Core.Path.{_≡_, refl, sym, ap, _∙_, subst}
 use mathlib.Core.Bool.{Bool, true, false, _&&_}
-use Prim.Native.Nat.{ℕ, zero, suc, _+_, _*_, _^_, _≤_, _<_}
+use Prim.Native.Nat.{ℕ, _+_, _*_, _^_, _≤_, _<_}
 use native.Mathlib.Omega.{arith}
-use native.Mathlib.Nat.{le-refl, lt-of-le-of-lt, div-le-self}
+use native.Mathlib.Nat.{le-refl, lt-of-le-of-lt}
 use lib.IntN.{ℤ, pos, negsuc, natAbs, _+ℤ_, _-ℤ_, _*ℤ_}
 use lib.Dec.{T, ltb, ltb→lt}
 use lib.Signed.{_≤ℤ_, _<ℤ_, leZ, ltZ, nonNeg, quotZ}
 use mir.Syntax.{w64}
 use mir.Val.{Fits, SFits, toZ, ofZ}
-use Rattle.whole.specs.Whole.{posPart, negPart, ∣_∣}
+use Rattle.whole.specs.Whole.{∣_∣}
 use Rattle.whole.proofs.Linear.{zarith, abs-fits, abs-add, abs-sub, abs-mul≤, back, quot-fits, fits⇒, quot-abs, bits-pos, mul-one≤, add-law, ⇒le, ⇒ltZ, leZ-true, leZ-false, ltZ-true, ltZ-false}
 
 infixl 6 _⊞_ _⊟_

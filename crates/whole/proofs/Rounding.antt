@@ -2,7 +2,7 @@
 use mathlib.Core.Path.{_≡_, refl, sym, ap, _∙_}
 use Prim.Native.Nat.{ℕ, zero, suc, _+_, _*_, _/_, _≤_, _<_}
 use Prim.Native.Nat.{_-_, _%_}
-use native.Mathlib.Nat.{div-mul-le-self, le-div-iff-mul-le, mul-div-le, lt-div-mul-add, div-eq-of-lt-le, mod-lt, div-add-mod', div-lt-iff-lt-mul, mul-le-mul-left, le-of-suc-le-suc, mul-pos, zero-div}
+use native.Mathlib.Nat.{div-mul-le-self, le-div-iff-mul-le, mul-div-le, lt-div-mul-add, div-eq-of-lt-le, mod-lt, div-add-mod', div-lt-iff-lt-mul, mul-le-mul-left, le-of-suc-le-suc, mul-pos}
 use native.Mathlib.Omega.{arith}
 use native.Mathlib.Nat.{add-zero, zero-add, div-div-eq-div-mul, div-le-of-le-mul, mod-self, mod-eq-of-lt, sub-zero}
 use lib.Dec.{leb·suc-zero}

@@ -1,5 +1,5 @@
 -- A test of every number below a given one, the first number that fails it, and a test that counts only where another holds.
-use Prim.Native.Nat.{ℕ, zero, suc, _<_}
+use Prim.Native.Nat.{ℕ, zero, suc}
 use mathlib.Core.Bool.{Bool, true, false, _&&_, cond}
 use lib.Dec.{ltb}
 

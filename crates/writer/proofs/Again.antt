@@ -1,19 +1,16 @@
 -- An accepted file is the one that the writer makes of the records handed out of it. Assumes nothing.
-use mathlib.Core.Path.{_≡_, refl, sym, ap, ap₂, _∙_}
-use Prim.Native.Nat.{ℕ, zero, suc, _+_, _-_, _*_, _/_, _≤_, _<_}
+use mathlib.Core.Path.{_≡_, refl, sym, ap, _∙_}
+use Prim.Native.Nat.{ℕ, zero, suc, _+_, _-_, _*_, _/_, _<_}
 use native.Mathlib.Omega.{arith}
-use mathlib.Core.Bool.{Bool, true, false, _&&_, cond}
-use mathlib.Core.List.{List, [], _∷_, _++_}
+use mathlib.Core.Bool.{Bool, true, false, cond}
+use mathlib.Core.List.{List, _++_}
 use lib.ListN.{length, getD, take, drop, length-drop, take-append-drop}
 use lib.Seq.{length-take-le, getD-take, drop-drop, take-all, ext-getD}
-use lib.IntN.{ℤ, pos}
-use lib.Dec.{leb, eqb}
-use mir.Syntax.{w64}
-use mir.Val.{toZ}
-use borrow.Author.Tests.{eqb-true, eq-eqb, le-leb}
+use lib.Dec.{eqb}
+use borrow.Author.Tests.{eqb-true, eq-eqb}
 use Rattle.sections.specs.Words.{word}
 use Rattle.sections.specs.Layouts.{layoutIn, standsIn, places, station, source, orientation, pass}
-use Rattle.sections.specs.File.{refusalOf, countOf, kindOf, firstByte, layoutOf, present, between, sectionsRight, countRight}
+use Rattle.sections.specs.File.{refusalOf, countOf, kindOf, layoutOf, present, between, sectionsRight, countRight}
 use Rattle.whole.proofs.Linear.{and-true, no-ft}
 use Rattle.whole.proofs.Tests.{and-yes}
 use Rattle.sections.proofs.Accepted.{accepted-contents}
@@ -21,7 +18,7 @@ use Rattle.sections.proofs.Sound.{five, kind-stands, count-is-right}
 use Rattle.writer.specs.Bytes.{bytesOfAll, wordsOf}
 use Rattle.writer.specs.Writing.{sizeIn, listRight, listsRight, contentsFor, fileWords, fileOf, kinds}
 use Rattle.writer.specs.Handed.{stationsIn, sourcesIn, daysIn, passesIn}
-use Rattle.writer.proofs.Numbers.{numbersOf, Bytes}
+use Rattle.writer.proofs.Numbers.{Bytes}
 use Rattle.writer.proofs.All.{bytes-back}
 use Rattle.whole.proofs.Values.{values-long}
 use Rattle.writer.proofs.Tables.{wordsIn, word-is, numbers-long, words-of-values}

@@ -1,12 +1,11 @@
 -- Numbers written one after the other are read back, and bytes that are read are written back.
 -- Assumes nothing.
-use mathlib.Core.Path.{_≡_, refl, sym, ap, ap₂, _∙_, subst}
-use Prim.Native.Nat.{ℕ, zero, suc, _+_, _-_, _*_, _/_, _%_, _≤_, _<_, _^_}
-use native.Mathlib.Nat.{add-zero, zero-add}
+use mathlib.Core.Path.{_≡_, refl, ap, ap₂, _∙_}
+use Prim.Native.Nat.{ℕ, zero, suc, _+_, _-_, _*_}
 use native.Mathlib.Omega.{arith}
-use mathlib.Core.List.{List, [], _∷_, _++_, append-assoc}
-use lib.ListN.{length, getD, set, take, drop, length-append, length-drop}
-use lib.Seq.{drop-drop, getD-drop, drop-at}
+use mathlib.Core.List.{List, [], _∷_, _++_}
+use lib.ListN.{length, drop, length-append, length-drop}
+use lib.Seq.{getD-drop, drop-at}
 use Rattle.sections.specs.Words.{bitsAt}
 use Rattle.writer.specs.Bytes.{bytesOf, bytesOfAll}
 use Rattle.writer.proofs.Numbers.{Bytes, numbersOf}

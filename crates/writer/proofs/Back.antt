@@ -1,28 +1,27 @@
 -- Lists that the writer accepts are the records handed out of the file that it makes. Assumes nothing.
 use mathlib.Core.Path.{_≡_, refl, sym, ap, ap₂, _∙_}
-use Prim.Native.Nat.{ℕ, zero, suc, _+_, _-_, _*_, _/_, _≤_, _<_}
+use Prim.Native.Nat.{ℕ, _+_, _-_, _*_, _/_, _≤_, _<_}
 use native.Mathlib.Omega.{arith}
-use mathlib.Core.Bool.{Bool, true, false}
-use mathlib.Core.List.{List, [], _∷_, _++_, append-assoc, append-nil}
-use lib.ListN.{length, getD, take, drop, length-append, length-map, List·getD-append, List·getD-map}
+use mathlib.Core.Bool.{true}
+use mathlib.Core.List.{List, [], _++_, append-assoc, append-nil}
+use lib.ListN.{length, getD, length-append, length-map, List·getD-append, List·getD-map}
 use lib.Seq.{ext-getD, getD-append-add}
-use lib.IntN.{ℤ, pos, natAbs}
+use lib.IntN.{ℤ, pos}
 use mir.Syntax.{w64}
-use mir.Val.{toZ, ofZ, SFits}
+use mir.Val.{toZ, ofZ}
 use mir.Facts.{toZ-ofZ}
 use Rattle.sections.specs.Words.{word}
 use Rattle.sections.specs.Layouts.{layoutIn, places, station, source, orientation, pass}
 use Rattle.sections.specs.File.{refusalOf, countOf}
 use Rattle.writer.specs.Bytes.{bytesOfAll, wordsOf}
-use Rattle.writer.specs.Writing.{sizeIn, listsRight, contentsFor, fileWords, fileOf, kinds}
+use Rattle.writer.specs.Writing.{listsRight, contentsFor, fileWords, fileOf, kinds}
 use Rattle.writer.specs.Handed.{stationsIn, sourcesIn, daysIn, passesIn}
 use Rattle.writer.specs.Round.{Longs}
-use Rattle.writer.proofs.Numbers.{numbersOf}
 use Rattle.writer.proofs.All.{all-long, numbers-back}
 use Rattle.writer.proofs.Counts.{lists-right}
 use Rattle.whole.specs.Values.{firstValues}
 use Rattle.whole.proofs.Values.{values-long, value-at}
-use Rattle.writer.proofs.Tables.{wordsIn, word-is}
+use Rattle.writer.proofs.Tables.{word-is}
 use Rattle.writer.proofs.Sections.{stations-values, sources-values, days-values, passes-values}
 
 -- the words of a file made of words

@@ -1,10 +1,9 @@
 -- Lists that are right counts of whole records. Assumes nothing.
-use mathlib.Core.Path.{_≡_, refl, sym, ap, _∙_}
-use Prim.Native.Nat.{ℕ, zero, suc, _+_, _*_, _/_, _≤_, _<_}
+use mathlib.Core.Path.{_≡_, refl, sym, _∙_}
+use Prim.Native.Nat.{ℕ, zero, suc, _*_, _/_, _≤_, _<_}
 use native.Mathlib.Omega.{arith}
-use mathlib.Core.Bool.{Bool, true, false, _&&_}
-use lib.ListN.{length}
-use lib.Dec.{leb, ltb, eqb}
+use mathlib.Core.Bool.{true, false}
+use lib.Dec.{leb, eqb}
 use borrow.Author.Tests.{eq-eqb, ne-eqb, eqb-true, le-leb, lt-leb, leb-true, lt-ltb, ltb-true}
 use Rattle.whole.proofs.Products.{below}
 use Rattle.sections.specs.Layouts.{layoutIn, standsIn}

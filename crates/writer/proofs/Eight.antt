@@ -1,16 +1,16 @@
 -- Eight bytes and their number: writing and reading undo each other.
 -- Assumes nothing.
-use mathlib.Core.Path.{_≡_, refl, sym, ap, ap₂, _∙_, subst}
-use Prim.Native.Nat.{ℕ, zero, suc, _+_, _-_, _*_, _/_, _%_, _≤_, _<_, _^_}
+use mathlib.Core.Path.{_≡_, sym, ap, _∙_}
+use Prim.Native.Nat.{ℕ, suc, _+_, _-_, _*_, _/_, _%_, _≤_, _<_}
 use native.Mathlib.Nat.{add-zero}
 use native.Mathlib.Omega.{arith}
 use mathlib.Core.List.{List, [], _∷_, _++_, append-assoc}
-use lib.ListN.{length, getD, set, take, drop, length-take}
+use lib.ListN.{length, getD, take, drop}
 use native.Mathlib.Numerals.{add-one}
-use lib.Seq.{drop-cons, sets, sets-eq, getD-append-add, getD-append-seam}
-use Rattle.sections.specs.Words.{pairAt, quadAt, bitsAt}
-use Rattle.writer.specs.Bytes.{bytesOf, quadOf, pairOf}
-use Rattle.writer.specs.Code.{putPair, putQuad, putBits}
+use lib.Seq.{drop-cons, sets-eq, getD-append-add}
+use Rattle.sections.specs.Words.{bitsAt}
+use Rattle.writer.specs.Bytes.{bytesOf}
+use Rattle.writer.specs.Code.{putQuad, putBits}
 use Rattle.writer.proofs.Numbers.{Bytes}
 
 -- the number of eight bytes, given in parts

@@ -1,11 +1,10 @@
 -- The two round trips of the calls, over any lists of 64-bit numbers and any bytes. Assumes nothing.
-use mathlib.Core.Path.{_≡_, refl, sym, ap, ap₂, _∙_}
-use Prim.Native.Nat.{ℕ, zero, suc, _≤_}
-use native.Mathlib.Omega.{arith}
+use mathlib.Core.Path.{_≡_, sym, ap, _∙_}
+use Prim.Native.Nat.{ℕ, _≤_}
 use native.Mathlib.Decide.{ℕ-discrete}
 use mathlib.Core.Bool.{true}
 use mathlib.Core.List.{List}
-use lib.ListN.{length, take}
+use lib.ListN.{length}
 use lib.IntN.{ℤ, pos, natAbs}
 use Rattle.sections.specs.File.{refusalOf}
 use Rattle.session.specs.declared.Counts.{Counts}

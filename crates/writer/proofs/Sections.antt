@@ -1,23 +1,18 @@
 -- The records that the calls hand out of an accepted file, as the words of its sections. Assumes nothing.
-use mathlib.Core.Path.{_≡_, refl, sym, ap, ap₂, _∙_}
-use Prim.Native.Nat.{ℕ, zero, suc, _+_, _-_, _*_, _/_, _≤_, _<_}
+use mathlib.Core.Path.{_≡_, refl, sym, ap, _∙_}
+use Prim.Native.Nat.{ℕ, _+_, _-_, _*_}
 use native.Mathlib.Omega.{arith}
 use native.Mathlib.Decide.{ℕ-discrete}
-use mathlib.Core.Bool.{Bool, true}
-use mathlib.Core.List.{List, [], _∷_, _++_}
+use mathlib.Core.List.{List}
 use lib.ListN.{length}
 use lib.IntN.{ℤ, pos, natAbs}
 use mir.Syntax.{w64}
 use mir.Val.{toZ}
-use Rattle.sections.specs.Words.{bitsAt, word, numberAt}
+use Rattle.sections.specs.Words.{bitsAt, word}
 use Rattle.sections.specs.File.{refusalOf, countOf, sizeOf, firstByte, startOf, recordByte, fieldAt}
 use Rattle.sections.proofs.Accepted.{accepted-contents}
 use Rattle.sections.proofs.Sound.{first-is, length-is}
 use Rattle.session.specs.declared.Counts.{Counts}
-use Rattle.session.specs.declared.Station.{Station}
-use Rattle.session.specs.declared.Source.{Source}
-use Rattle.session.specs.declared.Day.{Day}
-use Rattle.session.specs.declared.Pass.{Pass}
 use Rattle.session.specs.Records.{checkOf, countsIn, stationOf, sourceOf, dayOf, passOf, stationAt, sourceAt, dayAt, passAt}
 use Rattle.session.proofs.Fields.{size-first, size-second, size-third, size-fourth}
 use Rattle.session.proofs.Answers.{check-accepted, check-refused, asked-there, station-yes, source-yes, day-yes, pass-yes}

@@ -1,24 +1,21 @@
 -- Lists of numbers given by a rule, and the sections of a file as such lists. Assumes nothing.
 use mathlib.Core.Path.{_≡_, refl, sym, ap, ap₂, _∙_}
 use Prim.Native.Nat.{ℕ, zero, suc, _+_, _-_, _*_, _/_, _≤_, _<_}
-use native.Mathlib.Nat.{add-zero, add-suc, mul-zero, mul-suc, add-assoc, not-suc-le-zero, le-of-suc-le-suc}
+use native.Mathlib.Nat.{mul-zero, add-assoc, not-suc-le-zero, le-of-suc-le-suc}
 use native.Mathlib.Omega.{arith}
-use native.Mathlib.Decide.{ℕ-discrete}
-use lib.Arith.{lt-of-le-ne}
-use mathlib.Core.List.{List, [], _∷_, _++_, append-assoc, append-nil, map}
-use lib.ListN.{length, getD, take, drop, length-append, length-drop, length-map, List·getD-append, List·getD-map}
-use lib.Seq.{length-take-le, getD-take, getD-drop, getD-append-add, ext-getD}
+use mathlib.Core.List.{List, _++_}
+use lib.ListN.{length, getD, take, drop, length-drop, length-map, List·getD-map}
+use lib.Seq.{length-take-le, getD-take, getD-drop, ext-getD}
 use lib.IntN.{ℤ, pos}
 use mir.Syntax.{w64}
 use mir.Val.{toZ, ofZ, Fits}
-use mir.Facts.{toZ-ofZ, ofZ-toZ}
-use Rattle.sections.specs.Words.{bitsAt, word, numberAt}
+use mir.Facts.{ofZ-toZ}
+use Rattle.sections.specs.Words.{bitsAt, word}
 use Rattle.whole.specs.Values.{firstValues}
 use Rattle.whole.proofs.Values.{values-long, value-at, values-join}
 use Rattle.writer.specs.Bytes.{wordsOf}
 use Rattle.writer.specs.Handed.{joined}
 use Rattle.writer.proofs.Numbers.{numbersOf, Bytes}
-use Rattle.writer.proofs.All.{bytes-drop}
 
 -- records of size numbers each, one after the other
 pub joined-values : (size n : ℕ) (f : ℕ → List ℤ) (g : ℕ → ℤ) → ((i : ℕ) → i < n → f i ≡ firstValues size (λ (k : ℕ). g (size * i + k))) → joined n f ≡ firstValues (size * n) g

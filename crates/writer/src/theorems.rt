@@ -1,6 +1,5 @@
 // The round trips as theorems over every slice there is. A number of a slice fits its type, which only a function over the slice can tell:
 // so each theorem is the promise of a function whose result nobody needs.
-ghost use mathlib.Core.Path.{_≡_};
 ghost use Rattle.writer.specs.Round.{Longs, ReadBack, WrittenBack};
 use sections::refusal::refusal_of;
 

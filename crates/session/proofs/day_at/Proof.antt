@@ -1,4 +1,4 @@
-use mathlib.Core.Path.{_≡_, sym, ap, _∙_}
+use mathlib.Core.Path.{sym, ap, _∙_}
 use native.Mathlib.Omega.{arith}
 use Rattle.session.specs.Records.{noDay}
 use Rattle.session.proofs.Answers.{asked-zero, day-no, day-yes}

@@ -1,4 +1,4 @@
-use mathlib.Core.Path.{_≡_, refl, sym, _∙_}
+use mathlib.Core.Path.{refl, sym, _∙_}
 use lib.IntN.{pos}
 use Rattle.session.proofs.Answers.{number-back}
 use Rattle.whole.proofs.Answers.{answer-no, answer-yes}

@@ -4,8 +4,8 @@ use Rattle.writer.proofs.Paste.{more}
 use Rattle.writer.proofs.All.{all-long}
 use Rattle.writer.proofs.Counts.{lists-right}
 use native.Mathlib.Omega.{arith}
-use Prim.Native.Nat.{ℕ, _+_, _*_, _/_}
-use mathlib.Core.Path.{_≡_, ap, _∙_, sym}
+use Prim.Native.Nat.{ℕ, _+_}
+use mathlib.Core.Path.{_≡_, ap, _∙_}
 use mathlib.Core.List.{List, _++_, append-assoc}
 use lib.ListN.{length, length-append, length-map}
 use mir.Syntax.{w64}

@@ -7,7 +7,7 @@ use lib.IntN.{ℤ, pos, _+ℤ_}
 use Rattle.whole.specs.Steps.{halfFor}
 use Rattle.whole.specs.Whole.{floorZ}
 use Rattle.whole.proofs.Linear.{back, ret}
-use Rattle.whole.proofs.Machine.{M, var, _⊞_, val, ok, is}
+use Rattle.whole.proofs.Machine.{M, var, _⊞_, ok, is}
 use Rattle.whole.proofs.Rounding.{half-abs, R-floor}
 use Rattle.predict.proofs.lent.rounded.Statement.{statement}
 use Rattle.predict.proofs.lent.rounded.Tie as tie

@@ -1,6 +1,6 @@
 use Prim.Native.Nat.{_+_, _*_, _≤_}
 use lib.ListN.{length}
-use mathlib.Core.Path.{_≡_, ap, sym, _∙_}
+use mathlib.Core.Path.{_∙_}
 use native.Mathlib.Omega.{arith}
 use borrow.Author.Tests.{leb-true}
 use Rattle.sections.specs.Code.{shapeOf}

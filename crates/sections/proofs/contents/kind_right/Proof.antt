@@ -1,7 +1,5 @@
-use mathlib.Core.Path.{_≡_, ap, sym, _∙_}
-use native.Mathlib.Omega.{arith}
+use mathlib.Core.Path.{ap, sym, _∙_}
 use borrow.Author.Tests.{leb-true}
-use Prim.Native.Nat.{ℕ}
 use lib.Dec.{ltb}
 use Rattle.sections.specs.Code.{shapeOf}
 use Rattle.sections.specs.File.{kindRight}

@@ -1,4 +1,4 @@
-use mathlib.Core.Path.{_≡_, ap, _∙_}
+use mathlib.Core.Path.{ap, _∙_}
 use Prim.Native.Nat.{ℕ}
 use Rattle.sections.specs.Layouts.{layoutIn}
 use Rattle.sections.specs.Code.{shapeOf}

@@ -1,5 +1,4 @@
 use borrow.Author.Tests.{lt-leb, le-leb}
-use mathlib.Core.Path.{_≡_, ap, _∙_}
 use Rattle.sections.specs.File.{lengthRight}
 use Rattle.sections.proofs.contents.length_right.Statement.{statement}
 use Rattle.sections.proofs.contents.length_right.Tie as tie

@@ -1,5 +1,4 @@
-use mathlib.Core.Path.{_≡_, ap, ap₂, sym, _∙_}
-use native.Mathlib.Omega.{arith}
+use mathlib.Core.Path.{ap₂}
 use borrow.Author.Tests.{leb-true}
 use lib.Dec.{eqb}
 use Rattle.sections.specs.File.{offsetRight}

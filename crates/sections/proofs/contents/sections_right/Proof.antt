@@ -1,5 +1,4 @@
-use mathlib.Core.Path.{_≡_, ap, sym, _∙_}
-use native.Mathlib.Omega.{arith}
+use mathlib.Core.Path.{ap}
 use borrow.Author.Tests.{leb-true}
 use Prim.Native.Nat.{ℕ}
 use lib.Dec.{eqb}

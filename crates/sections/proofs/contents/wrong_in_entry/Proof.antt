@@ -1,4 +1,4 @@
-use mathlib.Core.Path.{_≡_, sym}
+use mathlib.Core.Path.{sym}
 use Rattle.whole.proofs.Tests.{failed, passed}
 use Rattle.sections.proofs.Walk.{entry-kind, entry-offset, entry-count, entry-none}
 use borrow.Author.Needs.{needs}

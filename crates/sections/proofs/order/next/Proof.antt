@@ -1,6 +1,5 @@
-use mathlib.Core.Path.{_≡_, ap, sym, _∙_}
+use mathlib.Core.Path.{sym}
 use mir.Facts.{toZ-ofZ}
-use lib.Signed.{leZ}
 use Rattle.sections.proofs.Numbers.{next-no, next-fits, next-is}
 use Rattle.sections.proofs.order.next.Statement.{statement}
 use Rattle.sections.proofs.order.next.Tie as tie

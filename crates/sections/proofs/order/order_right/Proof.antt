@@ -1,10 +1,10 @@
-use mathlib.Core.Path.{_≡_, ap, ap₂, sym, _∙_}
+use mathlib.Core.Path.{ap, ap₂, sym, _∙_}
 use native.Mathlib.Omega.{arith}
 use Prim.Native.Nat.{ℕ, _-_}
 use lib.Dec.{eqb}
 use borrow.Author.Tests.{eq-eqb, ne-eqb}
 use Rattle.sections.specs.Code.{shapeOf}
-use Rattle.sections.specs.File.{layoutOf, orderRight, countOf}
+use Rattle.sections.specs.File.{orderRight}
 use Rattle.sections.specs.declared.layouts.Shape.{Shape}
 use Rattle.whole.proofs.Each.{all-first}
 use Rattle.sections.proofs.Sound.{table-long, counts-one}

@@ -1,4 +1,3 @@
-use mathlib.Core.Path.{_≡_, ap, sym, _∙_}
 use mir.Facts.{toZ-ofZ}
 use mir.Syntax.{w64}
 use borrow.Author.Needs.{needs}

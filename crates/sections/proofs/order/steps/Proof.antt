@@ -1,7 +1,6 @@
 use mir.Facts.{toZ-ofZ}
 use Rattle.sections.proofs.Numbers.{steps-rising, steps-consecutive, steps-free}
-use mathlib.Core.Path.{_≡_, ap, sym, _∙_}
-use Rattle.sections.specs.File.{steps}
+use mathlib.Core.Path.{sym, _∙_}
 use borrow.Author.Needs.{needs}
 use Rattle.sections.proofs.order.steps.Statement.{statement}
 use Rattle.sections.proofs.order.steps.Tie as tie

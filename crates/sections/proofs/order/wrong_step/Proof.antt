@@ -1,10 +1,8 @@
-use mathlib.Core.Path.{_≡_, ap, ap₂, sym, _∙_}
+use mathlib.Core.Path.{_≡_, ap, _∙_}
 use native.Mathlib.Omega.{arith}
-use Prim.Native.Nat.{ℕ, _-_, _+_, _*_, _≤_}
-use lib.ListN.{length}
-use Rattle.whole.specs.Each.{firstNot}
-use Rattle.sections.specs.Code.{shapeOf, stepBy}
-use Rattle.sections.specs.File.{layoutOf, sizeOf, countOf, firstByte}
+use Prim.Native.Nat.{_-_}
+use Rattle.sections.specs.Code.{shapeOf}
+use Rattle.sections.specs.File.{sizeOf, countOf}
 use Rattle.sections.specs.declared.layouts.Shape.{Shape}
 use Rattle.sections.proofs.Sound.{table-long, counts-one, counts-most, size-most, steps-fit, steps-same}
 use borrow.Author.Needs.{needs}

@@ -1,8 +1,7 @@
 use lib.ListN.{getD}
 use lib.IntN.{pos}
 use Rattle.sections.proofs.Numbers.{inside-same}
-use Prim.Native.Nat.{ℕ}
-use mathlib.Core.Path.{_≡_, ap, sym, _∙_}
+use mathlib.Core.Path.{_∙_}
 use mir.Facts.{toZ-ofZ}
 use mir.Syntax.{w64}
 use borrow.Author.Needs.{needs}

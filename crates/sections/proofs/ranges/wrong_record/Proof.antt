@@ -1,10 +1,9 @@
 use Rattle.whole.specs.Each.{firstNot}
 use Rattle.sections.specs.File.{firstByte}
 use Rattle.sections.specs.Code.{recordBy, shapeOf}
-use mathlib.Core.Path.{_≡_, ap, sym, _∙_}
+use mathlib.Core.Path.{_≡_, ap, _∙_}
 use native.Mathlib.Omega.{arith}
-use Prim.Native.Nat.{ℕ, _*_}
-use Rattle.sections.specs.File.{layoutOf, sizeOf, countOf}
+use Rattle.sections.specs.File.{sizeOf, countOf}
 use Rattle.sections.specs.declared.layouts.Shape.{Shape}
 use Rattle.sections.proofs.Sound.{table-long, counts-one, body-fits, size-most, records-same}
 use borrow.Author.Needs.{needs}

@@ -1,5 +1,4 @@
 use native.Mathlib.Omega.{arith}
-use mathlib.Core.Path.{_≡_}
 use Rattle.sections.proofs.Accepted.{accepted-contents}
 use Rattle.sections.proofs.Sound.{table-long, counts-most}
 use borrow.Author.Needs.{needs}

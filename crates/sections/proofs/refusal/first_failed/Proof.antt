@@ -1,4 +1,3 @@
-use mathlib.Core.Path.{_≡_}
 use Rattle.whole.proofs.Tests.{failed, passed}
 use borrow.Author.Needs.{needs}
 use Rattle.sections.proofs.refusal.first_failed.Statement.{statement}

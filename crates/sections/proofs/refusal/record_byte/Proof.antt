@@ -1,10 +1,8 @@
 use native.Mathlib.Omega.{arith}
-use native.Mathlib.Nat.{mul-le-mul-left, mul-le-mul-right}
-use native.Mathlib.Numerals.{add-one-le}
-use mathlib.Core.Path.{_≡_, ap, _∙_}
-use Prim.Native.Nat.{ℕ, _+_, _*_}
+use mathlib.Core.Path.{_≡_, ap}
+use Prim.Native.Nat.{_+_, _*_}
 use Rattle.sections.specs.Code.{shapeOf}
-use Rattle.sections.specs.File.{sizeOf, countOf, firstByte, recordByte}
+use Rattle.sections.specs.File.{sizeOf, recordByte}
 use Rattle.sections.specs.declared.layouts.Shape.{Shape}
 use Rattle.sections.proofs.Accepted.{accepted-contents}
 use Rattle.sections.proofs.Sound.{table-long, record-fits, length-short}

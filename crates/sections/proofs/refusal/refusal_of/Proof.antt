@@ -1,6 +1,6 @@
-use Prim.Native.Nat.{_<_, _≤_}
+use Prim.Native.Nat.{_<_}
 use native.Mathlib.Omega.{arith}
-use mathlib.Core.Path.{_≡_, sym, _∙_}
+use mathlib.Core.Path.{sym, _∙_}
 use Rattle.sections.specs.Table.{wrongWord}
 use Rattle.sections.proofs.Accepted.{no-contents, contents-past, is-one, is-first, refusal-most}
 use borrow.Author.Needs.{needs}

@@ -1,8 +1,5 @@
-use mathlib.Core.Path.{refl}
 use Rattle.session.proofs.Answers.{number-back}
-use mathlib.Core.Path.{_≡_, ap, _∙_}
 use native.Mathlib.Omega.{arith}
-use lib.IntN.{pos}
 use Rattle.sections.specs.File.{kindOf}
 use Rattle.sections.proofs.Shapes.{kind-small}
 use Rattle.sections.proofs.Sound.{table-long, kind-stands}

@@ -1,9 +1,9 @@
 use mathlib.Core.Path.{_≡_, ap, _∙_}
 use native.Mathlib.Omega.{arith}
-use Prim.Native.Nat.{ℕ, _+_, _*_}
+use Prim.Native.Nat.{_+_, _*_}
 use Rattle.whole.specs.Each.{firstNot}
 use Rattle.sections.specs.Code.{shapeOf, insideBy}
-use Rattle.sections.specs.File.{layoutOf, sizeOf, firstByte, recordByte, fieldRight}
+use Rattle.sections.specs.File.{sizeOf, firstByte, recordByte, fieldRight}
 use Rattle.sections.specs.declared.layouts.Shape.{Shape}
 use Rattle.whole.proofs.Each.{first-most}
 use Rattle.sections.proofs.Sound.{table-long, record-fits, length-short, size-most, fields-same}

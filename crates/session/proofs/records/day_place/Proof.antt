@@ -1,7 +1,6 @@
-use mathlib.Core.Path.{_≡_, sym, ap, _∙_}
+use mathlib.Core.Path.{_≡_, sym, _∙_}
 use native.Mathlib.Omega.{arith}
 use Prim.Native.Nat.{_≤_, _<_}
-use lib.IntN.{ℤ, pos}
 use mir.Syntax.{w64}
 use mir.Val.{toZ, ofZ}
 use mir.Facts.{toZ-ofZ}
@@ -10,7 +9,7 @@ use Rattle.sections.proofs.Accepted.{accepted-contents}
 use Rattle.sections.proofs.Sound.{counts-one}
 use Rattle.session.proofs.Fields.{size-third, field-back}
 use Rattle.session.proofs.Laws.{first-past, day-place, day-before, day-after}
-use Rattle.session.proofs.Past.{Past, past, diff-fits, diff-cast, diff-is}
+use Rattle.session.proofs.Past.{diff-fits, diff-cast, diff-is}
 use borrow.Author.Needs.{needs}
 use Rattle.session.proofs.records.day_place.Statement.{statement}
 use Rattle.session.proofs.records.day_place.Tie as tie

@@ -1,4 +1,4 @@
-use mathlib.Core.Path.{_≡_, ap, _∙_}
+use mathlib.Core.Path.{_∙_}
 use Rattle.whole.proofs.Linear.{ret}
 use Rattle.sections.proofs.Numbers.{inside-same}
 use mir.Facts.{toZ-ofZ}

@@ -1,10 +1,8 @@
-use mathlib.Core.Path.{_≡_, ap, sym, _∙_}
+use mathlib.Core.Path.{_≡_, ap, _∙_}
 use native.Mathlib.Omega.{arith}
-use Prim.Native.Nat.{ℕ, _*_}
 use mir.Facts.{toZ-ofZ}
 use Rattle.sections.specs.Code.{shapeOf}
-use Rattle.sections.specs.File.{sizeOf, countOf}
-use Rattle.session.specs.Records.{placeBy}
+use Rattle.sections.specs.File.{sizeOf}
 use Rattle.sections.specs.declared.layouts.Shape.{Shape}
 use Rattle.sections.proofs.Accepted.{accepted-contents}
 use Rattle.sections.proofs.Sound.{table-long, body-fits, size-one}

@@ -1,12 +1,12 @@
 -- `whole::divide::half` meets its contract.
-use mathlib.Core.Path.{_≡_, refl, _∙_}
+use mathlib.Core.Path.{_≡_, refl}
 use mathlib.Core.Bool.{true, false}
 use lib.IntN.{ℤ, pos, negsuc, _-ℤ_}
 use lib.Signed.{ltZ, _≤ℤ_}
 use mir.Syntax.{w64}
 use mir.Val.{SFits}
 use Rattle.whole.specs.Steps.{halfFor}
-use Rattle.whole.proofs.Linear.{zarith, ltZ-true, ltZ-false, no-tf, back, known, le-parts, sub-lawℤ}
+use Rattle.whole.proofs.Linear.{zarith, ltZ-true, no-tf, back, known, le-parts, sub-lawℤ}
 use Rattle.whole.proofs.divide.half.Statement.{statement}
 use Rattle.whole.proofs.divide.half.Tie as tie
 

@@ -1,5 +1,5 @@
 -- `whole::long::rounded` meets its contract.
-use mathlib.Core.Path.{_≡_, sym, ap, _∙_}
+use mathlib.Core.Path.{_≡_, ap, _∙_}
 use Prim.Native.Nat.{_^_}
 use borrow.Author.Needs.{needs}
 use native.Mathlib.Omega.{arith}

@@ -1,5 +1,5 @@
 -- `whole::long::size_product` meets its contract.
-use Prim.Native.Nat.{ℕ, _*_, _/_, _%_, _≤_, _^_}
+use Prim.Native.Nat.{_*_, _/_, _%_, _≤_, _^_}
 use borrow.Author.Needs.{needs}
 use native.Mathlib.Omega.{arith}
 use Rattle.whole.proofs.Products.{split-mul, below}

@@ -1,11 +1,11 @@
 -- `whole::long::turned` meets its contract.
-use mathlib.Core.Path.{_≡_, sym, ap, _∙_}
+use mathlib.Core.Path.{_≡_, ap, _∙_}
 use Prim.Native.Nat.{_^_}
 use native.Mathlib.Omega.{arith}
 use lib.IntN.{ℤ, pos, _+ℤ_, _*ℤ_}
 use Rattle.whole.specs.Whole.{R, floorZ, modZ}
 use Rattle.whole.proofs.Linear.{back, ret}
-use Rattle.whole.proofs.Machine.{M, var, _⊞_, _⊠_, val, bounded, ok, is}
+use Rattle.whole.proofs.Machine.{M, var, _⊞_, _⊠_, bounded, ok, is}
 use Rattle.whole.proofs.Quote.{⟨_⟩, #, _⊕_, _⊗_, by≡}
 use Rattle.whole.proofs.Rounding.{floor-abs, floor-mod, mod-below}
 use Rattle.whole.proofs.long.turned.Statement.{statement}

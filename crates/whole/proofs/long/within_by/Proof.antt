@@ -1,5 +1,4 @@
 -- `whole::long::within_by` meets its contract.
-use mathlib.Core.Path.{_≡_}
 use Prim.Native.Nat.{_^_}
 use borrow.Author.Needs.{needs}
 use lib.IntN.{pos}

@@ -1,4 +1,3 @@
-use mathlib.Core.Path.{_≡_, refl, sym, ap, _∙_}
 use mir.Facts.{toZ-ofZ}
 use Rattle.whole.proofs.sign.in_range.Statement.{statement}
 use Rattle.whole.proofs.sign.in_range.Tie as tie

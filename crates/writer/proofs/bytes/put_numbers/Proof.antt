@@ -1,18 +1,18 @@
 use Rattle.writer.specs.Bytes.{pasted, wordsOf}
 use Rattle.writer.specs.Bytes.{bytesOfAll}
 use Rattle.writer.specs.Code.{putBits}
-use Rattle.writer.proofs.Paste.{pasted-none, words-more, pasted-long}
+use Rattle.writer.proofs.Paste.{pasted-none, words-more}
 use borrow.Author.Needs.{needs}
 use native.Mathlib.Omega.{arith}
 use mathlib.Core.Path.{_≡_, refl, sym, ap, _∙_}
 use mathlib.Core.List.{List}
-use Prim.Native.Nat.{ℕ, _≤_, _<_, _-_, _*_, _+_}
+use Prim.Native.Nat.{ℕ, _≤_, _-_, _*_, _+_}
 use lib.ListN.{length, take, getD, length-map, List·getD-map}
-use lib.IntN.{ℤ, pos}
+use lib.IntN.{pos}
 use lib.Seq.{take-length}
 use mir.Facts.{toZ-ofZ}
 use mir.Syntax.{w64}
-use mir.Val.{toZ, ofZ}
+use mir.Val.{ofZ}
 use Rattle.writer.proofs.bytes.put_numbers.Statement.{statement}
 use Rattle.writer.proofs.bytes.put_numbers.Tie as tie
 

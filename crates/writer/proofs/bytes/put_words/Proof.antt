@@ -1,7 +1,7 @@
 use Rattle.writer.specs.Bytes.{pasted}
 use Rattle.writer.specs.Bytes.{bytesOfAll}
 use Rattle.writer.specs.Code.{putBits}
-use Rattle.writer.proofs.Paste.{pasted-none, words-more, pasted-long}
+use Rattle.writer.proofs.Paste.{pasted-none, words-more}
 use borrow.Author.Needs.{needs}
 use native.Mathlib.Omega.{arith}
 use mathlib.Core.Path.{_≡_, refl, sym, ap, _∙_}

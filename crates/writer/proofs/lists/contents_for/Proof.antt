@@ -1,7 +1,6 @@
-use mathlib.Core.Path.{_≡_, refl, ap, sym, _∙_}
 use native.Mathlib.Omega.{arith}
-use mathlib.Core.List.{List, [], _∷_}
-use Prim.Native.Nat.{ℕ, _+_, _*_}
+use mathlib.Core.List.{[], _∷_}
+use Prim.Native.Nat.{_+_, _*_}
 use Rattle.writer.specs.Writing.{contentsFor}
 use Rattle.writer.proofs.Counts.{lists-right}
 use Rattle.writer.proofs.lists.contents_for.Statement.{statement}

@@ -1,6 +1,5 @@
-use mathlib.Core.Path.{_≡_, ap, sym, _∙_}
-use native.Mathlib.Omega.{arith}
-use Prim.Native.Nat.{ℕ, _/_, _<_}
+use mathlib.Core.Path.{_≡_, ap}
+use Prim.Native.Nat.{ℕ, _/_}
 use Rattle.sections.specs.Code.{shapeOf}
 use Rattle.sections.specs.declared.layouts.Shape.{Shape}
 use Rattle.writer.specs.Writing.{sizeIn}

@@ -1,7 +1,7 @@
 use mathlib.Core.Path.{_≡_, ap, sym, _∙_}
 use native.Mathlib.Omega.{arith}
 use native.Mathlib.Nat.{mul-div-le}
-use Prim.Native.Nat.{ℕ, _*_, _/_, _%_, _<_, _≤_}
+use Prim.Native.Nat.{_/_, _<_}
 use Rattle.sections.specs.Layouts.{layoutIn}
 use Rattle.sections.specs.Code.{shapeOf}
 use Rattle.sections.specs.declared.layouts.Shape.{Shape}

@@ -1,4 +1,3 @@
-use mathlib.Core.Path.{_≡_, ap, sym, _∙_}
 use Rattle.whole.proofs.Tests.{failed, passed}
 use Rattle.writer.specs.Writing.{listsRight}
 use borrow.Author.Needs.{needs}
