@@ -27,7 +27,7 @@ fn decimal(z: i64) {
 
 // ---- a file
 
-// The section of a kind.
+// The name of the section of a kind.
 fn section(kind: u64) {
     if kind == 1 {
         say(b"stations");
@@ -57,7 +57,7 @@ fn table_word(j: u64) {
     section((j - 1) / 3 + 1);
 }
 
-// Refusal 1 for number j of the contents table, which the file may not reach the end of.
+// Refusal 1, where number j of the contents table is the first that is wrong. The file ends inside it if it holds no more than j whole numbers.
 fn explain_table(length: usize, j: u64) {
     if length as u64 / 8 <= j {
         say(b"the file ends inside its contents table");
@@ -71,7 +71,7 @@ fn explain_table(length: usize, j: u64) {
     say(b"); its numbers count from 0");
 }
 
-// Refusal 1 for the length.
+// Refusal 1, where the contents table is right and the length is not.
 fn explain_length(length: usize) {
     if 65536 < length {
         say(b"the file is longer than 65536 bytes");
@@ -149,7 +149,7 @@ fn field(kind: u64, k: u64) {
     }
 }
 
-// Refusals 2, 3 and 4.
+// Refusals 2, 3 and 4, and the record and field at which they arise.
 fn explain_record(p: Place) {
     let kind = size(p.section);
     let k = size(p.field);
@@ -174,7 +174,7 @@ fn explain_record(p: Place) {
 }
 
 // What the refusal of a file means, and where it arises.
-pub fn explain_file(file: &[u8]) {
+pub(crate) fn explain_file(file: &[u8]) {
     let p = session::fault(file);
     say(b"refused ");
     decimal(p.number);
@@ -227,7 +227,7 @@ fn explain_names(file: &[u8], i: usize)
     absent_source(file, p.source);
 }
 
-// Refusal 6.
+// Refusal 6: the pass has that number.
 fn explain_days(file: &[u8], i: usize)
     requires { ⌜ lentOutcome (now file) i .answer .refusal ≡ pos 6 ⌝ }
 {
@@ -257,7 +257,7 @@ fn explain_pass(file: &[u8], i: usize, n: i64)
 }
 
 // What the numbers of the refused passes mean.
-pub fn explain_passes(file: &[u8], passes: usize, numbers: &[i64])
+pub(crate) fn explain_passes(file: &[u8], passes: usize, numbers: &[i64])
     requires { ⌜ (checkOf (now file) .refusal ≡ pos 0) × (passes ≡ ∣ checkOf (now file) .passes ∣) × Numbers (now file) passes (now numbers) ⌝ }
 {
     let mut i: usize = 0;

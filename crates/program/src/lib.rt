@@ -53,7 +53,8 @@ fn print_passes(file: &[u8], passes: usize, room: &mut [u8], numbers: &mut [i64]
 {
     let mut i: usize = 0;
     while i < passes {
-        numbers[i] = print_pass(file, i, room);
+        let n = print_pass(file, i, room);
+        numbers[i] = n;
         i += 1;
     }
 }

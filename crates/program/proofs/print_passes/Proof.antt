@@ -38,11 +38,11 @@ loop-holds c = (omega arith, refl, refl, record { long = omega arith; each = λ 
 print-pass-requires : tie.Need-print-pass-requires Inv-loop μ-loop
 print-pass-requires c κs = search needs
 
-mul-t10 : tie.Need-mul-t10 Inv-loop μ-loop
-mul-t10 c = search needs
+mul-n : tie.Need-mul-n Inv-loop μ-loop
+mul-n c = search needs
 
-slice-set-from-numbers : tie.Need-slice-set-from-numbers Inv-loop μ-loop
-slice-set-from-numbers c = search needs
+slice-set-from-n : tie.Need-slice-set-from-n Inv-loop μ-loop
+slice-set-from-n c = search needs
 
 add-i : tie.Need-add-i Inv-loop μ-loop
 add-i c = search needs
@@ -80,8 +80,8 @@ print-passes-spec =
     μ-loop
     loop-holds
     print-pass-requires
-    mul-t10
-    slice-set-from-numbers
+    mul-n
+    slice-set-from-n
     add-i
     loop-less
     loop-again
