@@ -81,7 +81,7 @@ module _ (s : List ℕ) (h : refusalOf s ≡ 0) where
         rw (asked-there s 3 i h l, values-count k f, le-leb 1 k (c .0), le-leb k 4096 (c .1), t .0, t .1) (below-all k _ small)
 
     -- the pass has the number of its samples: 2,048 segments are always enough
-    pass-number : lentOutcome s i .answer .refusal ≡ pos (samplesNumber s i 4096)
+    pub pass-number : lentOutcome s i .answer .refusal ≡ pos (samplesNumber s i 4096)
     unfolding passOutcome
     pass-number =
         let room = replicate (4 * 2048) (pos 0) in
