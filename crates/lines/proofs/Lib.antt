@@ -4,3 +4,4 @@ pub mod Texts
 pub mod Session
 pub mod Segments
 pub mod Printed
+pub mod Passes

@@ -8,7 +8,7 @@ use lib.ListN.{length, getD, drop}
 use lib.Seq.{getD-append-add}
 use Rattle.track.specs.Segments.{Segment, flat}
 use Rattle.track.specs.Answer.{written}
-use Rattle.lines.specs.Text.{lineOf, passLine, segmentLine, segmentLines, linesOf, outcomeText}
+use Rattle.lines.specs.Text.{lineOf, passLine, segmentLine, segmentLines, outcomeText}
 
 module _ (a b c d : ℤ) (zs : List ℤ) where
   abbrev whole : List ℤ
@@ -31,6 +31,11 @@ module _ (a b c d : ℤ) (zs : List ℤ) where
   first-line zero = sym (append-nil (lineOf a (b ∷ c ∷ d ∷ [])))
   first-line (suc m) =
       ap₂ _++_ (first-line m) (line-behind m) ∙ append-assoc (lineOf a (b ∷ c ∷ d ∷ [])) (segmentLines zs m) (segmentLine zs (4 * m))
+
+-- the lines of a list of segments
+unfoldable pub linesOf : List Segment → List ℕ
+linesOf [] = []
+linesOf (x ∷ xs) = lineOf (pos (x .first)) (pos (x .count) ∷ x .offset ∷ x .rate ∷ []) ++ linesOf xs
 
 pub segment-lines : (xs : List Segment) (rest : List ℤ) → segmentLines (flat xs ++ rest) (length xs) ≡ linesOf xs
 unfolding linesOf flat segmentLines

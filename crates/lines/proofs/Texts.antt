@@ -57,7 +57,7 @@ pass-holds s i room =
 
 -- "It lends room for 2,048 segments, which is always enough" of the room for their lines
 pub lent-holds : (s : List ℕ) (i : ℕ) → Holds 2048 (lentOutcome s i)
-lent-holds s i = subst (λ (n : ℕ). Holds (n / 4) (lentOutcome s i)) (length-replicate 8192 (pos 0)) (pass-holds s i (replicate 8192 (pos 0)))
+lent-holds s i = subst (λ (n : ℕ). Holds (n / 4) (lentOutcome s i)) (length-replicate (4 * 2048) (pos 0)) (pass-holds s i (replicate (4 * 2048) (pos 0)))
 
 -- ---- the text, by its two cases
 

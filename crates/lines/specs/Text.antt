@@ -8,7 +8,6 @@ use lib.ListN.{getD, replicate}
 use lib.Signed.{leZ}
 use Rattle.whole.specs.Whole.{posPart}
 use Rattle.sections.specs.File.{refusalOf, countOf}
-use Rattle.track.specs.Segments.{Segment}
 use Rattle.track.specs.Answer.{Outcome}
 use Rattle.fringe.specs.PassTrack.{passOutcome}
 use Rattle.lines.specs.Decimal.{decimal}
@@ -35,11 +34,6 @@ unfoldable pub segmentLines : List ℤ → ℕ → List ℕ
 segmentLines room zero = []
 segmentLines room (suc m) = segmentLines room m ++ segmentLine room (4 * m)
 
--- the same of a list of segments: proofs/Segments.antt shows that its lines are those of the room that it stands in
-unfoldable pub linesOf : List Segment → List ℕ
-linesOf [] = []
-linesOf (x ∷ xs) = lineOf (pos (x .first)) (pos (x .count) ∷ x .offset ∷ x .rate ∷ []) ++ linesOf xs
-
 -- "a refused pass prints them in place of its lines"
 unfoldable pub outcomeText : ℕ → Outcome → List ℕ
 outcomeText i o =
@@ -49,7 +43,7 @@ outcomeText i o =
 
 -- "It lends room for 2,048 segments": what `fringe::pass_track` answers for pass i of a file, and leaves there
 abbrev pub lentOutcome : List ℕ → ℕ → Outcome
-lentOutcome s i = passOutcome s i (replicate 8192 (pos 0))
+lentOutcome s i = passOutcome s i (replicate (4 * 2048) (pos 0))
 
 -- what it prints for pass i of a file
 unfoldable pub passText : List ℕ → ℕ → List ℕ

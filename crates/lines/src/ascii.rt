@@ -30,7 +30,7 @@ fn digits(n: u64) -> usize
     k
 }
 
-// The digits of n, from at on: the last first, each a tenth of the way up.
+// The digits of n, from at on. They are put from the last to the first.
 pub fn put_natural(room: &mut [u8], at: usize, n: u64) -> usize
     requires { ⌜ at + length (digitsOf n) ≤ length (now room) ⌝ }
     ensures { λ r. ⌜ Put (now (room .entry)) at (digitsOf n) (now (room .exit)) r ⌝ }

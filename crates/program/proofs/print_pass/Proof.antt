@@ -1,6 +1,7 @@
--- `program::print_pass` writes the pass's text.
-use mathlib.Core.Path.{sym}
+-- `program::print_pass` writes the pass's text and answers the pass's number.
+use mathlib.Core.Path.{sym, _∙_}
 use lib.Seq.{length-take-le}
+use Rattle.whole.proofs.Linear.{ret}
 use Rattle.lines.proofs.Puts.{put-inside, put-start}
 use borrow.Author.Needs.{needs}
 use Rattle.program.proofs.print_pass.Statement.{statement}
@@ -24,7 +25,9 @@ same-length : tie.Need-same-length
 same-length c = search needs
 
 returns : tie.Need-returns
-returns c = search needs
+returns c =
+    let t = c .before .before .before .before .before .pass-text in
+    ret (t .result .refusal) (c .struct-told .given .1 .0 .1) ∙ t .ensures .1
 
 pub print-pass-spec : {M : Type 1} → statement M
 print-pass-spec =

@@ -3,7 +3,8 @@ use mathlib.Core.Path.{_≡_, sym, ap, _∙_}
 use mathlib.Core.Bool.{true, false}
 use Prim.Native.Nat.{ℕ}
 use lib.Dec.{lit≤}
-use lib.IntN.{pos}
+use native.Mathlib.Omega.{arith}
+use lib.IntN.{ℤ, pos}
 use lib.ListN.{length-replicate}
 use lib.Signed.{leZ}
 use mir.Syntax.{w64}
@@ -14,6 +15,7 @@ use Rattle.session.specs.declared.Counts.{Counts}
 use Rattle.session.specs.Records.{checkOf}
 use Rattle.lines.specs.Text.{refusedLine, passTexts}
 use Rattle.lines.proofs.Session.{session-refused, session-passes}
+use Rattle.lines.proofs.Passes.{not-refused, passes-few}
 use borrow.Author.Needs.{needs}
 use Rattle.program.proofs.print_session.Statement.{statement}
 use Rattle.program.proofs.print_session.Tie as tie
@@ -57,19 +59,30 @@ size-requires c κs = search needs
 slice-aggregate-print-passes : tie.Need-slice-aggregate-print-passes
 slice-aggregate-print-passes c = search needs
 
+slice-aggregate-print-passes-2 : tie.Need-slice-aggregate-print-passes-2
+slice-aggregate-print-passes-2 c = search needs
+
+-- the file is not refused
+goes-on : (c : tie.Else1) → leZ (pos 1) (checkOf (c .before .before .before .before .args .file .now) .refusal) ≡ false
+goes-on c = ap (leZ (pos 1)) (sym (number-is (c .before))) ∙ c .if1 .left
+
 print-passes-requires : tie.Need-print-passes-requires
 print-passes-requires c κs =
-    let t = c .before .before .before .before .before in
-    let s = t .before .before .before .args .file .now in
-    let e = number-is t in
-    let y : leZ (pos 1) (checkOf s .refusal) ≡ false = ap (leZ (pos 1)) (sym e) ∙ c .before .before .before .before .if1 .left in
-    (rw (length-replicate {A = ℕ} 172100 0) (lit≤ tt), session-passes s y ∙ ap (passTexts s) (sym (passes-are (c .before .before))))
+    let s = c .before .before .before .before .before .before .before .before .args .file .now in
+    let y = goes-on (c .before .before .before .before) in
+    let e = passes-are (c .before .before) in
+    (rw (length-replicate {A = ℕ} 172100 0) (lit≤ tt), rw (length-replicate {A = ℤ} 64 (pos 0)) (omega (arith, e, passes-few s (not-refused s y))), session-passes s y ∙ ap (passTexts s) (sym e))
+
+slice-aggregate-explain-passes : tie.Need-slice-aggregate-explain-passes
+slice-aggregate-explain-passes c = search needs
 
 explain-passes-requires : tie.Need-explain-passes-requires
-explain-passes-requires c κs = search needs
+explain-passes-requires c κs =
+    let e = c .before .before .before .before .before .before .before .before in
+    (not-refused (e .before .before .before .before .args .file .now) (goes-on e), passes-are (c .before .before .before .before .before .before), c .before .before .before .print-passes .ensures)
 
 returns-2 : tie.Need-returns-2
-returns-2 c = number-is (c .before .before .before .before .before .before .before .before .before)
+returns-2 c = number-is (c .before .before .before .before .before .before .before .before .before .before)
 
 pub print-session-spec : {M : Type 1} → statement M
 print-session-spec =
@@ -82,6 +95,8 @@ print-session-spec =
     returns
     size-requires
     slice-aggregate-print-passes
+    slice-aggregate-print-passes-2
     print-passes-requires
+    slice-aggregate-explain-passes
     explain-passes-requires
     returns-2)

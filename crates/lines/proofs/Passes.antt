@@ -1,0 +1,128 @@
+-- The numbers of a file that is accepted: it has at most 64 passes, and a pass is refused with 5 or 6 or not at all. Assumes nothing.
+use mathlib.Core.Path.{_≡_, refl, sym, ap, _∙_}
+use mathlib.Core.Bool.{Bool, true, false, cond}
+use mathlib.Core.List.{List, [], _∷_, append-nil}
+use Prim.Native.Nat.{ℕ, zero, suc, _*_, _/_, _≤_, _<_}
+use native.Mathlib.Omega.{arith}
+use borrow.Author.Tests.{leb-true, le-leb, lt-ltb}
+use lib.Dec.{eqb, leb, eqb·suc-zero}
+use lib.IntN.{ℤ, pos}
+use lib.ListN.{length, getD, replicate, length-replicate}
+use lib.Signed.{leZ}
+use Rattle.whole.specs.Whole.{∣_∣}
+use Rattle.whole.proofs.Each.{below-all}
+use Rattle.whole.proofs.Linear.{and-true, no-tf}
+use Rattle.sections.specs.File.{refusalOf, countOf, countRight, layoutOf, present}
+use Rattle.sections.specs.Layouts.{pass}
+use Rattle.sections.proofs.Accepted.{accepted-contents}
+use Rattle.sections.proofs.Sound.{count-is-right}
+use Rattle.session.specs.declared.Counts.{Counts}
+use Rattle.session.specs.Records.{checkOf, countsIn, noCounts, passOf, passAt}
+use Rattle.session.proofs.Answers.{check-accepted, asked-there}
+use Rattle.session.proofs.Fields.{layout-fourth}
+use Rattle.session.proofs.Laws.{Natural, pass-ranges}
+use Rattle.delay.specs.Calls.{samplesOf, sampleIn, firstValues, samplesNumber, lowest, unless, allThere, allCovered}
+use Rattle.delay.proofs.Accepted.{pass-in}
+use Rattle.delay.proofs.Epochs.{samples-count}
+use Rattle.delay.proofs.Theorems.{sample-bounded}
+use Rattle.delay.proofs.Written.{values-count, sample-at}
+use Rattle.track.specs.Answer.{Outcome, inRange, smallAt, outcome, refused}
+use Rattle.track.proofs.Answers.{always-enough}
+use Rattle.fringe.specs.PassTrack.{passSamples, passOutcome}
+use Rattle.lines.specs.Text.{lentOutcome}
+
+-- ---- a number by the tests that are left
+
+by-tests : (t c : Bool) → lowest (0 ∷ 0 ∷ unless t 5 ∷ unless c 6 ∷ 0 ∷ []) ≡ cond t (cond c 0 6) 5
+by-tests true true = refl
+by-tests true false = refl
+by-tests false true = refl
+by-tests false false = refl
+
+neither : (n : ℤ) (t c : Bool) → n ≡ pos (cond t (cond c 0 6) 5) → (n ≡ pos 0 → ⊥) → (n ≡ pos 5 → ⊥) → n ≡ pos 6
+neither n true true e f g = absurd (f e)
+neither n true false e f g = e
+neither n false c e f g = absurd (g e)
+
+by-number : (n : ℕ) (o : Outcome) (room : List ℤ) → (n ≡ 0 → o .answer .refusal ≡ pos 0) → cond (eqb n 0) o (refused n room) .answer .refusal ≡ pos n
+by-number zero o room f = f refl
+by-number (suc n) o room f = rw (eqb·suc-zero n)
+
+tolerance-in : (z : ℤ) → Natural 0 1000000 z → (leZ (pos 0) z ≡ true) × (leZ z (pos 1000000) ≡ true)
+tolerance-in z h = rw (h .is) (le-leb 0 (h .value) (h .least), le-leb (h .value) 1000000 (h .most))
+
+module _ (s : List ℕ) (h : refusalOf s ≡ 0) where
+  few-passes : countOf s 3 ≤ 64
+  unfolding countRight pass
+  few-passes =
+      let r = and-true (present s 12) _ (count-is-right s (accepted-contents s h) 3 (omega arith)) .1 in
+      let m = and-true (leb (layoutOf s 3 .fewest) (countOf s 3)) _ r .1 in
+      leb-true (countOf s 3) 64 (rw (layout-fourth s h) at m)
+
+  module _ (i : ℕ) (l : i < countOf s 3) where
+    number-by : samplesNumber s i 4096 ≡ cond (allThere s (passOf s i .station1) (passOf s i .station2) (passOf s i .source)) (cond (allCovered s (passOf s i)) 0 6) 5
+    unfolding samplesNumber
+    number-by =
+        let p = passOf s i in
+        let m = samples-count p (pass-in s h i l) .1 in
+        rw (h, lt-ltb i (countOf s 3) l, le-leb (samplesOf p) 4096 m) (by-tests (allThere s (p .station1) (p .station2) (p .source)) (allCovered s p))
+
+    -- the samples that are given are such as `track` takes
+    taken : samplesNumber s i 4096 ≡ 0 → inRange (passSamples s i) (passAt s i .tolerance) ≡ true
+    unfolding inRange passSamples passAt
+    taken e =
+        let p = passOf s i in
+        let k = samplesOf p in
+        let f = sampleIn s p in
+        let c = samples-count p (pass-in s h i l) in
+        let t = tolerance-in (p .tolerance) (pass-ranges s h i l .tolerance) in
+        let at : (j : ℕ) → j < k → getD (firstValues k f) j (pos 0) ≡ f j = λ j m. ap (λ (zs : List ℤ). getD zs j (pos 0)) (sym (append-nil (firstValues k f))) ∙ sample-at k f [] j m in
+        let small : (j : ℕ) → j < k → leb ∣ getD (firstValues k f) j (pos 0) ∣ 130000000000 ≡ true = λ j m. rw (at j m) (le-leb ∣ f j ∣ 130000000000 (sample-bounded s i 4096 j e m)) in
+        rw (asked-there s 3 i h l, values-count k f, le-leb 1 k (c .0), le-leb k 4096 (c .1), t .0, t .1) (below-all k _ small)
+
+    -- the pass has the number of its samples: 2,048 segments are always enough
+    pub pass-number : lentOutcome s i .answer .refusal ≡ pos (samplesNumber s i 4096)
+    unfolding passOutcome
+    pass-number =
+        let room = replicate (4 * 2048) (pos 0) in
+        let d : 2048 ≤ length room / 4 = omega (arith, length-replicate (4 * 2048) (pos 0)) in
+        by-number (samplesNumber s i 4096) (outcome (passSamples s i) (passAt s i .tolerance) room) room
+        (λ (e : samplesNumber s i 4096 ≡ 0). ap (λ (o : Outcome). o .answer .refusal) (always-enough (passSamples s i) (passAt s i .tolerance) room (taken e) d))
+
+    neither-six : (lentOutcome s i .answer .refusal ≡ pos 0 → ⊥) → (lentOutcome s i .answer .refusal ≡ pos 5 → ⊥) → lentOutcome s i .answer .refusal ≡ pos 6
+    neither-six f g =
+        let p = passOf s i in
+        neither (lentOutcome s i .answer .refusal) (allThere s (p .station1) (p .station2) (p .source)) (allCovered s p) (pass-number ∙ ap pos number-by) f g
+
+-- ---- the same by what `session::check` answers
+
+by-check : (s : List ℕ) (r : ℕ) → cond (eqb r 0) (countsIn s) (noCounts r) .refusal ≡ pos r
+by-check s zero = refl
+by-check s (suc r) = rw (eqb·suc-zero r)
+
+check-number : (s : List ℕ) → checkOf s .refusal ≡ pos (refusalOf s)
+unfolding checkOf
+check-number s = by-check s (refusalOf s)
+
+below-one : (z : ℤ) (r : ℕ) → z ≡ pos r → leZ (pos 1) z ≡ false → z ≡ pos 0
+below-one z zero e f = e
+below-one z (suc r) e f = no-tf (sym (le-leb 1 (suc r) (omega arith)) ∙ sym (ap (leZ (pos 1)) e) ∙ f)
+
+-- a number below 1 is 0
+pub not-refused : (s : List ℕ) → leZ (pos 1) (checkOf s .refusal) ≡ false → checkOf s .refusal ≡ pos 0
+not-refused s f = below-one (checkOf s .refusal) (refusalOf s) (check-number s) f
+
+module _ (s : List ℕ) (e : checkOf s .refusal ≡ pos 0) where
+  pub accepted : refusalOf s ≡ 0
+  accepted = let f : pos (refusalOf s) ≡ pos 0 = sym (check-number s) ∙ e in cc
+
+  counted : ∣ checkOf s .passes ∣ ≡ countOf s 3
+  counted = ap (λ (c : Counts). ∣ c .passes ∣) (check-accepted s accepted) ∙ omega arith
+
+  pub passes-few : ∣ checkOf s .passes ∣ ≤ 64
+  passes-few = omega (arith, counted, few-passes s accepted)
+
+  -- a pass that is refused, and not with 5, is refused with 6
+  pub six-else : (i : ℕ) → i < ∣ checkOf s .passes ∣ → (lentOutcome s i .answer .refusal ≡ pos 0 → ⊥) → (lentOutcome s i .answer .refusal ≡ pos 5 → ⊥)
+      → lentOutcome s i .answer .refusal ≡ pos 6
+  six-else i l f g = neither-six s accepted i (omega (arith, l, counted)) f g
