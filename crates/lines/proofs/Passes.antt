@@ -1,7 +1,7 @@
 -- The numbers of a file that is accepted: it has at most 64 passes, and a pass is refused with 5 or 6 or not at all. Assumes nothing.
 use mathlib.Core.Path.{_≡_, refl, sym, ap, _∙_}
 use mathlib.Core.Bool.{Bool, true, false, cond}
-use mathlib.Core.List.{List, [], _∷_, append-nil}
+use mathlib.Core.List.{List, [], _∷_}
 use Prim.Native.Nat.{ℕ, zero, suc, _*_, _/_, _≤_, _<_}
 use native.Mathlib.Omega.{arith}
 use borrow.Author.Tests.{leb-true, le-leb, lt-ltb}
@@ -12,21 +12,22 @@ use lib.Signed.{leZ}
 use Rattle.whole.specs.Whole.{∣_∣}
 use Rattle.whole.proofs.Each.{below-all}
 use Rattle.whole.proofs.Linear.{and-true, no-tf}
+use Rattle.whole.specs.Values.{firstValues}
+use Rattle.whole.proofs.Values.{values-long, value-at}
 use Rattle.sections.specs.File.{refusalOf, countOf, countRight, layoutOf, present}
 use Rattle.sections.specs.Layouts.{pass}
 use Rattle.sections.proofs.Accepted.{accepted-contents}
 use Rattle.sections.proofs.Sound.{count-is-right}
 use Rattle.session.specs.declared.Counts.{Counts}
-use Rattle.session.specs.Records.{checkOf, countsIn, noCounts, passOf, passAt}
-use Rattle.session.proofs.Answers.{check-accepted, asked-there}
+use Rattle.session.specs.Records.{checkOf, countsIn, noCounts, passOf}
+use Rattle.session.proofs.Answers.{check-accepted}
 use Rattle.session.proofs.Fields.{layout-fourth}
 use Rattle.session.proofs.Laws.{Natural, pass-ranges}
-use Rattle.delay.specs.Calls.{samplesOf, sampleIn, firstValues, samplesNumber, lowest, unless, allThere, allCovered}
+use Rattle.delay.specs.Calls.{samplesOf, sampleIn, samplesNumber, lowest, unless, allThere, allCovered}
 use Rattle.delay.proofs.Accepted.{pass-in}
 use Rattle.delay.proofs.Epochs.{samples-count}
 use Rattle.delay.proofs.Theorems.{sample-bounded}
-use Rattle.delay.proofs.Written.{values-count, sample-at}
-use Rattle.track.specs.Answer.{Outcome, inRange, smallAt, outcome, refused}
+use Rattle.track.specs.Answer.{Outcome, inRange, outcome, refused}
 use Rattle.track.proofs.Answers.{always-enough}
 use Rattle.fringe.specs.PassTrack.{passSamples, passOutcome}
 use Rattle.lines.specs.Text.{lentOutcome}
@@ -68,17 +69,16 @@ module _ (s : List ℕ) (h : refusalOf s ≡ 0) where
         rw (h, lt-ltb i (countOf s 3) l, le-leb (samplesOf p) 4096 m) (by-tests (allThere s (p .station1) (p .station2) (p .source)) (allCovered s p))
 
     -- the samples that are given are such as `track` takes
-    taken : samplesNumber s i 4096 ≡ 0 → inRange (passSamples s i) (passAt s i .tolerance) ≡ true
-    unfolding inRange passSamples passAt
+    taken : samplesNumber s i 4096 ≡ 0 → inRange (passSamples s i) (passOf s i .tolerance) ≡ true
+    unfolding inRange passSamples
     taken e =
         let p = passOf s i in
         let k = samplesOf p in
         let f = sampleIn s p in
         let c = samples-count p (pass-in s h i l) in
         let t = tolerance-in (p .tolerance) (pass-ranges s h i l .tolerance) in
-        let at : (j : ℕ) → j < k → getD (firstValues k f) j (pos 0) ≡ f j = λ j m. ap (λ (zs : List ℤ). getD zs j (pos 0)) (sym (append-nil (firstValues k f))) ∙ sample-at k f [] j m in
-        let small : (j : ℕ) → j < k → leb ∣ getD (firstValues k f) j (pos 0) ∣ 130000000000 ≡ true = λ j m. rw (at j m) (le-leb ∣ f j ∣ 130000000000 (sample-bounded s i 4096 j e m)) in
-        rw (asked-there s 3 i h l, values-count k f, le-leb 1 k (c .0), le-leb k 4096 (c .1), t .0, t .1) (below-all k _ small)
+        let small : (j : ℕ) → j < k → leb ∣ getD (firstValues k f) j (pos 0) ∣ 130000000000 ≡ true = λ j m. rw (value-at k j f m) (le-leb ∣ f j ∣ 130000000000 (sample-bounded s i 4096 j e m)) in
+        rw (values-long k f, le-leb 1 k (c .0), le-leb k 4096 (c .1), t .0, t .1) (below-all k _ small)
 
     -- the pass has the number of its samples: 2,048 segments are always enough
     pub pass-number : lentOutcome s i .answer .refusal ≡ pos (samplesNumber s i 4096)
@@ -86,8 +86,8 @@ module _ (s : List ℕ) (h : refusalOf s ≡ 0) where
     pass-number =
         let room = replicate (4 * 2048) (pos 0) in
         let d : 2048 ≤ length room / 4 = omega (arith, length-replicate (4 * 2048) (pos 0)) in
-        by-number (samplesNumber s i 4096) (outcome (passSamples s i) (passAt s i .tolerance) room) room
-        (λ (e : samplesNumber s i 4096 ≡ 0). ap (λ (o : Outcome). o .answer .refusal) (always-enough (passSamples s i) (passAt s i .tolerance) room (taken e) d))
+        by-number (samplesNumber s i 4096) (outcome (passSamples s i) (passOf s i .tolerance) room) room
+        (λ (e : samplesNumber s i 4096 ≡ 0). ap (λ (o : Outcome). o .answer .refusal) (always-enough (passSamples s i) (passOf s i .tolerance) room (taken e) d))
 
     neither-six : (lentOutcome s i .answer .refusal ≡ pos 0 → ⊥) → (lentOutcome s i .answer .refusal ≡ pos 5 → ⊥) → lentOutcome s i .answer .refusal ≡ pos 6
     neither-six f g =
