@@ -49,7 +49,7 @@ def unreadable(tally, script):
 
 
 def tracks(tally):
-    """The program by its script; the first run may build it, the others must not."""
+    """The program by its script: the first run may build it, the last must, the others must not."""
     command, file = os.path.join(ROOT, "tracks"), contents(SESSION)
     wanted = "".join(line + "\n" for line in program.lines(file))
     tally.equal("./tracks", ran([command])[:2], (0, wanted))
@@ -57,6 +57,8 @@ def tracks(tally):
     tally.equal("./tracks -", ran([command, "-"], stdin=file), (0, wanted, ""))
     refused = ran([command, "-"], stdin=file[:-8])
     tally.equal("./tracks of a file that is cut off", refused[:2], (0, "refused 1\n"))
+    os.remove(os.path.join(ROOT, "target", "bin", "tracks"))
+    tally.equal("./tracks where the program was taken away", ran([command])[:2], (0, wanted))
 
 
 def example_prints(file):
