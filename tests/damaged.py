@@ -150,10 +150,17 @@ def one_too_few(lists, place):
     return encode(changed)
 
 
+def each_word_wrong(lists):
+    """The contents table with -1, which no word of it may be, for each word in turn."""
+    file = encode(lists)
+    return [with_word(file, index, -1) for index in range(CONTENTS_BYTES // 8)]
+
+
 def files(numbers, full, sound, each):
-    """Over-long files, counts just outside their limits, then `each` damaged files of every kind, made from the sound sessions."""
+    """Over-long files, each word of a contents table wrong, counts just outside their limits, then `each` damaged files of every kind, made from the sound sessions."""
     return [
         *over_long(numbers.choice(sound)),
+        *each_word_wrong(numbers.choice(sound)),
         *(one_too_many(full, place) for place in range(4)),
         *(one_too_few(numbers.choice(sound), place) for place in range(4)),
         *(kind(numbers, numbers.choice(sound)) for kind in KINDS for _ in range(each)),

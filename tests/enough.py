@@ -18,6 +18,7 @@ LEAST = {
     "step 3,600,000": 10,
     "4,096 samples": 5,
     "differing TAI-UTC": 20,
+    **{"TAI-UTC %s" % step: 10 for step in ("rises by the next day", "rises by 99", "falls by the next day", "falls by 99")},
     "pass on the file's last day": 10,
 }
 

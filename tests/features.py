@@ -24,13 +24,19 @@ def traps_of_pass(lists, planned):
     names = [station[0] for station in stations]
     missing = planned[0] not in names or planned[1] not in names or planned[2] not in [source[0] for source in sources]
     epochs = delay.epochs_of(planned)
-    covered = all(delay.two_days(days, day) for day in {day for day, _ in epochs})
+    pairs = [delay.two_days(days, day) for day in {day for day, _ in epochs}]
+    covered = all(pairs)
+    leaps = [tomorrow[4] - today[4] for today, tomorrow in pairs] if covered and not missing else []
     return {
         "pass over midnight": planned[4] + (planned[6] - 1) * planned[5] >= DAY_MS,
         "step 3,600,000": planned[5] == 3_600_000,
         "4,096 samples": planned[6] == 4_096,
         "pass on the file's last day": epochs[0][0] == days[-1][0],
         "one station named twice": planned[0] == planned[1],
+        "TAI-UTC rises by the next day": any(k > 0 for k in leaps),
+        "TAI-UTC rises by 99": 99 in leaps,
+        "TAI-UTC falls by the next day": any(k < 0 for k in leaps),
+        "TAI-UTC falls by 99": -99 in leaps,
         "pass refused with 5": missing,
         "pass refused with 6": not missing and not covered,
         "pass with samples": not missing and covered,

@@ -3,6 +3,7 @@
 Passes of them may be refused: some name an id that is not there, some reach an epoch that the orientation days do not cover.
 """
 
+import leapseconds
 from reference.delay import orientation_of
 from reference.earth import DAY_MS
 from reference.sine import TURN, cosine
@@ -142,6 +143,20 @@ def last_day_session(numbers, ms, samples):
     return (*lists, [pass_of(lists, ms, 1_000, samples, 3), pass_of(lists, 0, 1, 1, 0)])
 
 
+def leap_session(numbers, days):
+    """On each day but the last a sample at noon and one at its last millisecond; on each but two a pass over the midnight behind it."""
+    names = [1, 2, 1]
+    alone = [(*names, day[0], ms, 1, 1, 0) for day in days[:-1] for ms in (DAY_MS // 2, DAY_MS - 1)]
+    nights = [(*names, day[0], DAY_MS - 10_000, 1_000, 20, 5) for day in days[:-2]]
+    stations = [(i + 1, *station[1:]) for i, station in enumerate(some_stations(numbers, 2))]
+    return (stations, [(1, *some_sources(numbers, 1)[0][1:])], days, alone + nights)
+
+
+def widest_leaps():
+    """TAI-UTC goes from one end of its range to the other each day, and UT1-UTC the other way."""
+    return [(55_000 + i, 0, 0, -900_000_000 if i % 2 else 900_000_000, 99 * (i % 2)) for i in range(12)]
+
+
 def tick_of_a_half():
     """A tick whose cosine is one half exactly."""
     return next(tick for tick in range(TURN // 6 - 50, TURN // 6 + 50) if cosine(tick) == QUARTER // 2)
@@ -175,4 +190,5 @@ def sessions(numbers, count):
         hour_session(numbers, 4_096),
         *(last_day_session(numbers, DAY_MS - 10_000, samples) for samples in (9, 10, 11)),
         *(some_session(numbers) for _ in range(count)),
+        *(leap_session(numbers, days) for days in (widest_leaps(), *map(leapseconds.as_filed, leapseconds.published()))),
     ]

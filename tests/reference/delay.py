@@ -1,4 +1,4 @@
-"""Day values, orientation, delays and samples: document 01, 'Day values', 'Delay' and refusals 1 to 7.
+"""Day values, orientation, delays and samples: document 01, 'Day values', 'Delay' and refusals 1 to 7, and document 02, L1.
 
 A function that ends in `_of` works on records that are at hand; the others are the calls over a session file. Each call hands back
 its refusal first; refused, the rest are zeros.
@@ -16,9 +16,15 @@ def line(v0, v1, ms):
     return v0 + R((v1 - v0) * ms, earth.DAY_MS)
 
 
+def leap_of(today, tomorrow):
+    """By how many nanoseconds UT1-UTC steps between two records because TAI-UTC does, while UT1 goes on: document 02, L1."""
+    return (tomorrow[4] - today[4]) * 1_000_000_000
+
+
 def day_values_of(today, tomorrow, ms):
     """x, y and UT1R-UTC at a millisecond of the day of the record `today`."""
-    return tuple(line(today[i], tomorrow[i], ms) for i in (1, 2, 3))
+    x, y = (line(today[i], tomorrow[i], ms) for i in (1, 2))
+    return (x, y, line(today[3], tomorrow[3] - leap_of(today, tomorrow), ms))
 
 
 def orientation_of(today, tomorrow, ms, tide_used=earth.tide_at):

@@ -5,7 +5,7 @@ from reference.sine import ONE, TURN, cosine, sine
 from reference.whole import R
 
 RIGHT_DELAY, RIGHT_DAYS, RIGHT_ORIENTATION, RIGHT_SAMPLES = delay.delay_of, delay.two_days, delay.orientation_of, delay.samples_of
-RIGHT_CALL, RIGHT_DELAY_CALL = delay.samples, delay.delay
+RIGHT_CALL, RIGHT_DELAY_CALL, RIGHT_VALUES, RIGHT_LEAP = delay.samples, delay.delay, delay.day_values_of, delay.leap_of
 
 
 def halves_upward(a, b):
@@ -35,7 +35,19 @@ def tide_at_one_end(today, tomorrow, ms, tide_used=earth.tide_at):
 
 
 def next_days_tai(today, tomorrow, ms, tide_used=earth.tide_at):
-    return RIGHT_ORIENTATION((*today[:4], tomorrow[4]), tomorrow, ms, tide_used)
+    """The tide's minute is counted by the TAI-UTC of the next day's record."""
+    return RIGHT_ORIENTATION(today, tomorrow, ms, lambda n: tide_used(earth.minutes(today[0], ms, tomorrow[4])))
+
+
+def leap_of_the_day_after(days, day):
+    """TAI-UTC of record d+2 stands in record d+1."""
+    pair, after = RIGHT_DAYS(days, day), delay.named(days, day + 2)
+    return pair if pair is None or after is None else (pair[0], (*pair[1][:4], after[4]))
+
+
+def leap_at_both_ends(today, tomorrow, ms):
+    x, y, ut1r = RIGHT_VALUES(today, (*tomorrow[:4], today[4]), ms)
+    return (x, y, ut1r - RIGHT_LEAP(today, tomorrow))
 
 
 def declination_unsigned(station1, station2, source, values):
@@ -91,6 +103,10 @@ WRONG = (
     ("the tide left out", delay, "orientation_of", tide_left_out),
     ("the next day's value read as full UT1", delay, "orientation_of", tide_at_one_end),
     ("TAI-UTC of the next day", delay, "orientation_of", next_days_tai),
+    ("a leap second forgotten", delay, "leap_of", lambda today, tomorrow: 0),
+    ("a leap second added", delay, "leap_of", lambda today, tomorrow: -RIGHT_LEAP(today, tomorrow)),
+    ("the leap second of the day after the next", delay, "two_days", leap_of_the_day_after),
+    ("a leap second taken from the epoch's own day, too", delay, "day_values_of", leap_at_both_ends),
     ("no pole", delay, "pole_shift", lambda c, p: 0),
     ("a declination without its sign", delay, "delay_of", declination_unsigned),
     ("projections not rounded", delay, "delay_of", rounded_once),
