@@ -1,22 +1,22 @@
 -- Laws of the day values: what a caller may lean on, whatever the line of UT1-UTC is. Assumes nothing.
-use mathlib.Core.Path.{_≡_, refl, ap, _∙_}
+use mathlib.Core.Path.{_≡_, ap, _∙_}
 use Prim.Native.Nat.{ℕ, _+_, _≤_, _<_}
-use native.Mathlib.Nat.{le-trans}
+use native.Mathlib.Nat.{le-refl, le-trans}
 use native.Mathlib.Omega.{arith}
 use lib.Dec.{lit≤}
 use lib.IntN.{ℤ, pos, _+ℤ_, _-ℤ_, _*ℤ_}
 use lib.Signed.{_≤ℤ_}
-use Rattle.whole.specs.Whole.{∣_∣, R, line, floorZ}
-use Rattle.whole.proofs.Linear.{zarith, parts-le, abs-add, in-le}
+use Rattle.whole.specs.Whole.{posPart, negPart, ∣_∣, R, line, floorZ}
+use Rattle.whole.proofs.Linear.{zarith, sub-lawℤ, parts-le, abs-add, abs-sub, abs-mul≤, size-to, in-le}
 use Rattle.whole.proofs.Quote.{⟨_⟩, #, _⊕_, _⊝_, _⊗_, ⊖, by≡, by≤, of≤, of<}
-use Rattle.whole.proofs.Rounding.{line-size, floor-lo, floor-hi}
+use Rattle.whole.proofs.Rounding.{R-mul, line-size, floor-lo, floor-hi}
 use Rattle.earth.specs.Ranges.{InMs, InF}
 use Rattle.earth.specs.declared.time.Epoch.{Epoch}
 use Rattle.earth.specs.TideInUT1.{tideOf}
 use Rattle.earth.proofs.TideInUT1.{tide-most}
 use Rattle.session.specs.declared.Day.{Day}
 use Rattle.wave.specs.Bounds.{InRecord, InEarth}
-use Rattle.wave.specs.DayValues.{ut1rOf, ut1Line, ut1Used, fOf, earthOf}
+use Rattle.wave.specs.DayValues.{ut1rOf, leapOf, ut1Line, ut1Used, fOf, earthOf}
 
 pub ms-lo : {u : ℤ} → InMs u → pos 0 ≤ℤ u
 ms-lo {u} h = parts-le (pos 0) u (h .p-lo) (h .n-lo)
@@ -36,10 +36,39 @@ pub ut1r-size : (r : Day) → ∣ r .«ut1_utc» ∣ ≤ 900000000 → ∣ ut1rO
 unfolding ut1rOf
 ut1r-size r h = le-trans h (lit≤ tt)
 
--- where TAI-UTC stays the same the line goes from one record's UT1R to the next's
+-- at most 99 seconds
+pub leap-size : (r0 r1 : Day) → InRecord r0 → InRecord r1 → ∣ leapOf r0 r1 ∣ ≤ 99000000000
+unfolding leapOf
+leap-size r0 r1 a b =
+    let l0 = r0 .«tai_utc» in
+    let l1 = r1 .«tai_utc» in
+    let h0 = a .tai in
+    let h1 = b .tai in
+    let k = size-to (l1 -ℤ l0) (posPart l1 + negPart l0) (negPart l1 + posPart l0) 99 (sub-lawℤ l1 l0) (omega arith) (omega arith) in
+    abs-mul≤ (l1 -ℤ l0) (pos 1000000000) 99 1000000000 k (le-refl 1000000000)
+
+-- where TAI-UTC stays the same the line goes from one record's UT1R to the next's: it is document 01's
 pub ut1-same : (r0 r1 : Day) (u : ℤ) → r0 .«tai_utc» ≡ r1 .«tai_utc» → ut1Line r0 r1 u ≡ line (ut1rOf r0) (ut1rOf r1) u
-unfolding ut1Line
-ut1-same r0 r1 u e = refl
+unfolding ut1Line leapOf
+ut1-same r0 r1 u e =
+    let l1 = r1 .«tai_utc» in
+    ap (λ (z : ℤ). line (ut1rOf r0) (ut1rOf r1 -ℤ (l1 -ℤ z) *ℤ pos 1000000000) u) e
+    ∙ ap (λ (z : ℤ). line (ut1rOf r0) z u) (by≡ (⟨ ut1rOf r1 ⟩ ⊝ (⟨ l1 ⟩ ⊝ ⟨ l1 ⟩) ⊗ # 1000000000) ⟨ ut1rOf r1 ⟩ (omega arith))
+
+-- the end of a day's line is the next day's UT1R when both are counted from TAI: nothing steps at midnight
+pub ut1-goes-on : (r0 r1 : Day)
+    → ut1Line r0 r1 (pos 86400000) -ℤ r0 .«tai_utc» *ℤ pos 1000000000 ≡ ut1rOf r1 -ℤ r1 .«tai_utc» *ℤ pos 1000000000
+unfolding ut1Line leapOf
+ut1-goes-on r0 r1 =
+    let v0 = ut1rOf r0 in
+    let v1 = ut1rOf r1 in
+    let l0 = r0 .«tai_utc» in
+    let l1 = r1 .«tai_utc» in
+    ap (λ (z : ℤ). v0 +ℤ z -ℤ l0 *ℤ pos 1000000000) (R-mul (v1 -ℤ (l1 -ℤ l0) *ℤ pos 1000000000 -ℤ v0) 86400000 (omega arith))
+    ∙ by≡
+    (⟨ v0 ⟩ ⊕ (⟨ v1 ⟩ ⊝ (⟨ l1 ⟩ ⊝ ⟨ l0 ⟩) ⊗ # 1000000000 ⊝ ⟨ v0 ⟩) ⊝ ⟨ l0 ⟩ ⊗ # 1000000000)
+    (⟨ v1 ⟩ ⊝ ⟨ l1 ⟩ ⊗ # 1000000000)
+    (omega arith)
 
 -- the tide added at both ends is added to the line
 pub ends-moved : (v0 v1 u t : ℤ) → line (v0 +ℤ t) (v1 +ℤ t) u ≡ line v0 v1 u +ℤ t
@@ -48,10 +77,13 @@ ends-moved v0 v1 u t =
     let q = R ((v1 -ℤ v0) *ℤ u) 86400000 in
     ap (λ (z : ℤ). v0 +ℤ t +ℤ R (z *ℤ u) 86400000) d ∙ by≡ (⟨ v0 ⟩ ⊕ ⟨ t ⟩ ⊕ ⟨ q ⟩) (⟨ v0 ⟩ ⊕ ⟨ q ⟩ ⊕ ⟨ t ⟩) (omega arith)
 
--- its size, with room for a step of TAI-UTC between two days
+-- the line's size: UT1R and the leap
 pub ut1-line-size : (r0 r1 : Day) (u : ℤ) → InRecord r0 → InRecord r1 → InMs u → ∣ ut1Line r0 r1 u ∣ ≤ 99902723000
 unfolding ut1Line
-ut1-line-size r0 r1 u a b h = le-trans (between-size (ut1rOf r0) (ut1rOf r1) u 902723000 h (a .ut1-size) (b .ut1-size)) (lit≤ tt)
+ut1-line-size r0 r1 u a b h =
+    let h0 = a .ut1-size in
+    let h1 = b .ut1-size in
+    between-size (ut1rOf r0) (ut1rOf r1 -ℤ leapOf r0 r1) u 99902723000 h (omega arith) (omega (arith, abs-sub (ut1rOf r1) (leapOf r0 r1), leap-size r0 r1 a b))
 
 pub tide-size : (e : Epoch) (L : ℤ) → ∣ tideOf e L ∣ ≤ 2723000
 unfolding tideOf

@@ -1,5 +1,5 @@
--- Document 01, 'Day values' and 'Rotation angle': what an epoch's two orientation records give at the epoch.
-use lib.IntN.{ℤ, pos, _+ℤ_, _*ℤ_}
+-- Document 01, 'Day values' and 'Rotation angle', with document 02, L1: what an epoch's two orientation records give at the epoch.
+use lib.IntN.{ℤ, pos, _+ℤ_, _-ℤ_, _*ℤ_}
 use Rattle.whole.specs.Whole.{line, floorZ}
 use Rattle.earth.specs.declared.time.Epoch.{Epoch}
 use Rattle.earth.specs.TideInUT1.{tideOf}
@@ -11,9 +11,14 @@ use Rattle.wave.specs.declared.values.Earth.{Earth}
 unfoldable pub ut1rOf : Day → ℤ
 ut1rOf r = r .«ut1_utc»
 
--- "Each of x, y, UT1-UTC is v0 + R((v1 - v0)·u / 86,400,000)": the line of UT1-UTC from record d to record d+1, at u.
+-- Document 02, L1: k seconds in nanoseconds, where TAI-UTC of record d+1 is k above that of record d.
+unfoldable pub leapOf : Day → Day → ℤ
+leapOf r0 r1 = (r1 .«tai_utc» -ℤ r0 .«tai_utc») *ℤ pos 1000000000
+
+-- Document 01's line of UT1-UTC from record d to record d+1, at u, as document 02, L1, draws it: UT1 goes on where UT1-UTC steps with TAI-UTC, so the leap
+-- is taken from the value of record d+1.
 unfoldable pub ut1Line : Day → Day → ℤ → ℤ
-ut1Line r0 r1 u = line (ut1rOf r0) (ut1rOf r1) u
+ut1Line r0 r1 u = line (ut1rOf r0) (ut1rOf r1 -ℤ leapOf r0 r1) u
 
 -- "UT1-UTC used = day value + tide"; "TAI-UTC, called L, is that of record d."
 unfoldable pub ut1Used : Day → Day → Epoch → ℤ

@@ -1,4 +1,4 @@
-// What an epoch's two orientation records give at the epoch. Document 01, 'Day values'.
+// What an epoch's two orientation records give at the epoch. Document 01, 'Day values', and document 02, L1.
 use earth::Epoch;
 use earth::rows::tide_at_minute;
 use earth::turn::turn_of;
@@ -14,7 +14,7 @@ ghost use Rattle.earth.specs.Ranges.{InDay, InMs};
 ghost use Rattle.earth.specs.Angle.{eraOf};
 ghost use Rattle.earth.specs.Minutes.{minutesOf};
 ghost use Rattle.earth.specs.TideInUT1.{tideOf};
-ghost use Rattle.wave.specs.DayValues.{ut1rOf, ut1Line, fOf, earthOf};
+ghost use Rattle.wave.specs.DayValues.{ut1rOf, leapOf, ut1Line, fOf, earthOf};
 ghost use Rattle.wave.specs.Bounds.{InRecord, InEarth};
 ghost use Rattle.wave.specs.Keeping.{minuteOf, TrueMinute};
 
@@ -60,13 +60,21 @@ fn with_tide(r: Day, tide: i64) -> i64
     r.ut1_utc + tide
 }
 
-// UT1-UTC used: the line from one day's record to the next, with the tide at both its ends.
+// What UT1-UTC steps by from one record to the next because TAI-UTC does, in nanoseconds.
+fn leap(r0: Day, r1: Day) -> i64
+    requires { ⌜ InRecord r0 × InRecord r1 ⌝ }
+    ensures { λ k. ⌜ k ≡ leapOf r0 r1 ⌝ }
+{
+    (r1.tai_utc - r0.tai_utc) * 1000000000
+}
+
+// UT1-UTC used: the line from one day's record to the next, with the tide at both its ends and without the leap between them.
 fn ut1_used(r0: Day, r1: Day, ms: i64, tide: i64) -> i64
     requires { ⌜ InRecord r0 × InRecord r1 × InMs ms × (∣ tide ∣ ≤ 2723000) ⌝ }
     ensures { λ r. ⌜ r ≡ ut1Line r0 r1 ms +ℤ tide ⌝ }
 {
     let v0 = with_tide(r0, tide);
-    let v1 = with_tide(r1, tide);
+    let v1 = with_tide(r1, tide) - leap(r0, r1);
     line_at(v0, v1, ms)
 }
 
