@@ -84,6 +84,19 @@ static void passes(void)
 	taken("a first sample that is not covered", 0, MOST_NUMBERS, 6, 0, NULL);
 }
 
+/* TAI-UTC of the second day is one more than that of the first and of the third: a leap second, and then one that is left out */
+static void leap_seconds(void)
+{
+	lend_with(word(3, 1, 4), 38);
+	earth("noon before a leap second", 60000, 43200000, (int64_t[]){0, 100500, 400500, -522412506, 3994271192});
+	earth("the last millisecond before it", 60000, 86399999, (int64_t[]){0, 101000, 401000, -1022920347, 1852641952});
+	earth("0h behind it", 60001, 0, (int64_t[]){0, 101000, 401000, -22920359, 1852691848});
+	earth("noon before a second left out", 60001, 43200000, (int64_t[]){0, 101500, 401500, 476636453, 4006079803});
+	delay("a delay before a leap second", 10, 20, 1, 60000, 86399000, 0, 2303280195);
+	taken("a pass over a leap second", 0, 5, 0, 5, (int64_t[]){2303280195, 2303377799, 2303426583, 2303475353, 2303524113});
+	taken("a pass before a second left out", 1, 4, 0, 4, (int64_t[]){-987017445, -987051772, -987086103, -987120430});
+}
+
 /* a file's own refusal comes out of each of the three; an argument out of range is 2 also where the file would be 3 or 4 */
 static void refused_file(int at, int64_t value, int64_t n)
 {
@@ -101,6 +114,7 @@ void delays(void)
 {
 	sound_file();
 	passes();
+	leap_seconds();
 	refused_file(0, 3, 1);
 	refused_file(word(1, 0, 1), 6400000001, 2);
 	refused_file(word(2, 1, 0), 1, 3);
