@@ -33,8 +33,8 @@ extern const size_t base_fields[4];
 
 static inline int64_t base_floor(int64_t a, int64_t b) { return a / b - (a % b < 0); }
 
-/* The nearest whole number to a/b, halves away from zero; 2·a fits 64 bits. */
-static inline int64_t base_nearest(int64_t a, int64_t b) { return a < 0 ? -((b - 2 * a) / (2 * b)) : (2 * a + b) / (2 * b); }
+/* The nearest whole number to a/b, halves away from zero. */
+static inline int64_t base_nearest(int64_t a, int64_t b) { return a < 0 ? -((b / 2 - a) / b) : (a + b / 2) / b; }
 
 /* The nearest whole number to a/2^30, halves away from zero. */
 static inline int64_t base_nearest_of_30_bits(__int128 a) {

@@ -1,4 +1,4 @@
-/* Document 01, 'Day values' and 'Delay'. Of a pass the look-ups, the baseline and the declination are worked out once, the tide once a minute. */
+/* Document 01, 'Day values' and 'Delay', and document 02, L1. Of a pass the look-ups, the baseline and the declination are worked out once, the tide once a minute. */
 #include "baseline.h"
 
 struct place { int64_t x, y, z; };
@@ -20,13 +20,17 @@ static struct day two_days(const uint8_t *file, int64_t day) {
 
 static int covered(struct day d) { return d.today != NULL && d.tomorrow != NULL; }
 
-static int64_t line(struct day d, size_t field, int64_t ms) {
-    int64_t v0 = base_word(d.today, 8 * field), v1 = base_word(d.tomorrow, 8 * field);
+/* A field of the two records at a millisecond of the day, on a straight line; what the next day's value steps by is left out. */
+static int64_t line(struct day d, size_t field, int64_t step, int64_t ms) {
+    int64_t v0 = base_word(d.today, 8 * field), v1 = base_word(d.tomorrow, 8 * field) - step;
     return v0 + base_nearest((v1 - v0) * ms, 86400000);
 }
 
+/* Nanoseconds by which TAI-UTC rises from one record to the next. */
+static int64_t leap(struct day d) { return (base_word(d.tomorrow, 32) - base_word(d.today, 32)) * 1000000000; }
+
 static struct fringe_earth orientation_of(struct day d, int64_t ms, struct minute *kept) {
-    struct fringe_earth answer = {0, line(d, 1, ms), line(d, 2, ms), line(d, 3, ms), 0};
+    struct fringe_earth answer = {0, line(d, 1, 0, ms), line(d, 2, 0, ms), line(d, 3, leap(d), ms), 0};
     int64_t day = base_word(d.today, 0), n = base_minutes(day, ms, base_word(d.today, 32)), e;
     if (n != kept->n) *kept = (struct minute){n, base_tide_at(n)};
     answer.ut1_utc += kept->tide;
