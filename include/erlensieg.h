@@ -47,7 +47,9 @@
  *                           samples 1-4,096; tolerance 0-1,000,000                                                           1 to 64
  *   X, Y, Z are a station's place in the Earth-fixed frame: X toward the Greenwich meridian, Y toward 90 degrees east, Z toward the pole. A source's
  *   place is on the intermediate equator of date, right ascension counted from the celestial intermediate origin, both in ticks. An orientation record
- *   stands at 0h UTC of its day. UT1-UTC is UT1R, with the short tide removed: the calls below add the tide.
+ *   stands at 0h UTC of its day. UT1-UTC is UT1R, with the short tide removed: the calls below add the tide. Between two records the pole and UT1-UTC go
+ *   on a straight line. Where the next record's TAI-UTC is k seconds more (a leap second: k = 1), UT1-UTC steps at its 0h and UT1 does not: the line of that
+ *   day goes to the next record's UT1-UTC less k seconds, so that fringe_orientation may give a UT1-UTC beyond 900,000,000 there.
  */
 #ifndef ERLENSIEG_H
 #define ERLENSIEG_H
