@@ -61,7 +61,7 @@ module _ (s : List ℕ) (h : refusalOf s ≡ 0) where
       leb-true (countOf s 3) 64 (rw (layout-fourth s h) at m)
 
   module _ (i : ℕ) (l : i < countOf s 3) where
-    number-by : samplesNumber s i 4096 ≡ cond (allThere s (passOf s i .station1) (passOf s i .station2) (passOf s i .source)) (cond (allCovered s (passOf s i)) 0 6) 5
+    pub number-by : samplesNumber s i 4096 ≡ cond (allThere s (passOf s i .station1) (passOf s i .station2) (passOf s i .source)) (cond (allCovered s (passOf s i)) 0 6) 5
     unfolding samplesNumber
     number-by =
         let p = passOf s i in

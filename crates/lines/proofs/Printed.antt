@@ -1,16 +1,145 @@
--- Document 01, 'Numbers to meet', the track program: "it prints in whole `pass 0 1` and `0 3 0 0`". Assumes nothing.
-use mathlib.Core.Path.{_≡_, refl}
-use mathlib.Core.List.{[], _∷_}
-use lib.IntN.{pos}
+-- Document 01, 'Numbers to meet', the track program: what it prints of any file of one station named twice, which has 304 bytes. Assumes nothing.
+use mathlib.Core.Path.{_≡_, refl, sym, ap, _∙_}
+use mathlib.Core.Bool.{Bool, true}
+use mathlib.Core.List.{List, [], _∷_}
+use Prim.Native.Nat.{ℕ, zero, suc, _*_, _/_, _≤_, _<_}
+use native.Mathlib.Omega.{arith}
+use borrow.Author.Tests.{lt-ltb}
+use lib.IntN.{ℤ, pos, _+ℤ_, natAbs}
+use lib.ListN.{length, replicate, length-replicate}
+use Rattle.whole.specs.Each.{allBelow}
+use Rattle.whole.specs.Values.{firstValues}
+use Rattle.whole.proofs.Each.{below-all}
+use Rattle.whole.proofs.Tests.{and-yes}
+use Rattle.whole.proofs.Values.{values-same}
+use Rattle.earth.specs.Epoch.{laterOf}
+use Rattle.sections.specs.Words.{bitsAt}
+use Rattle.sections.specs.Layouts.{station, source, orientation, pass, places, noLayout, layoutIn, standsIn}
+use Rattle.sections.specs.File.{refusalOf, countOf, fieldAt, startOf, sectionsRight, kindRight, offsetRight, countRight, lengthRight, contentsRight, recordByte, fieldRight, recordRight, sectionRight, rangesRight, steps, stepRight, orderRight}
+use Rattle.session.specs.declared.Pass.{Pass}
+use Rattle.session.specs.Records.{stationOf, sourceOf, dayOf, passOf, placeBy}
+use Rattle.session.proofs.Laws.{place-is, day-place}
+use Rattle.writer.specs.Bytes.{bytesOf, bytesOfAll}
+use Rattle.delay.specs.Calls.{samplesOf, sampleIn, samplesNumber, allThere, allCovered}
+use Rattle.delay.specs.Sessions.{hasId, hasDay, covers, sampleEpoch}
+use Rattle.delay.proofs.Theorems.{sample-same}
+use Rattle.fit.specs.Greedy.{grow, longest, counts}
+use Rattle.fit.specs.Rates.{low, upp, rowLo, rowHi, lo, hi, fit, off, bias, scaled, fitOf, tilted, lifted, rateOf, offsetOf}
 use Rattle.track.specs.Segments.{Segment, flat}
-use Rattle.track.specs.Answer.{written}
+use Rattle.track.specs.Made.{segOf, segsOf, trackOf}
+use Rattle.track.specs.Answer.{inRange, outcome, written}
+use Rattle.track.proofs.Answers.{always-enough}
+use Rattle.fringe.specs.PassTrack.{passSamples, passOutcome}
 use Rattle.lines.specs.Decimal.{digitsBy, digitsOf, decimal}
-use Rattle.lines.specs.Text.{lineOf, passLine, segmentLine, segmentLines, outcomeText}
+use Rattle.lines.specs.Text.{lineOf, passLine, segmentLine, segmentLines, outcomeText, lentOutcome, passText, passTexts, sessionText}
+use Rattle.lines.specs.Printed.{OneStationTwice, smallest, inWhole}
+use Rattle.lines.proofs.Passes.{number-by}
 
--- the segment of the second line
-abbrev pub three : Segment
+-- ---- three samples of 0 at tolerance 0: one segment, and its text
+
+abbrev zeros : List ℤ
+zeros = pos 0 ∷ pos 0 ∷ pos 0 ∷ []
+
+abbrev three : Segment
 three = record { first = 0; count = 3; offset = pos 0; rate = pos 0 }
 
-pub prints-in-whole : outcomeText 0 (written (three ∷ []) []) ≡ 112 ∷ 97 ∷ 115 ∷ 115 ∷ 32 ∷ 48 ∷ 32 ∷ 49 ∷ 10 ∷ 48 ∷ 32 ∷ 51 ∷ 32 ∷ 48 ∷ 32 ∷ 48 ∷ 10 ∷ []
+zeros-track : trackOf zeros 0 ≡ three ∷ []
+unfolding grow longest counts low upp rowLo rowHi lo hi fit off bias scaled fitOf tilted lifted rateOf offsetOf segOf segsOf trackOf
+zeros-track = refl
+
+zeros-in : inRange zeros (pos 0) ≡ true
+unfolding allBelow inRange
+zeros-in = refl
+
+two-lines : (room : List ℤ) → outcomeText 0 (written (three ∷ []) room) ≡ inWhole
 unfolding flat digitsBy digitsOf decimal lineOf passLine segmentLine segmentLines outcomeText
-prints-in-whole = refl
+two-lines room = refl
+
+-- ---- the file
+
+module _ (s : List ℕ) (o : OneStationTwice s) where
+  some : (p n : ℕ) → countOf s p ≡ suc n → 0 < countOf s p
+  some p n e = omega (arith, e)
+
+  -- the record at the head of its place is found by its id
+  there : (p : ℕ) (z : ℤ) → 0 < countOf s p → z ≡ fieldAt s p 0 0 → hasId s p z ≡ true
+  there p z l e = lt-ltb (placeBy s p z) (countOf s p) (omega (arith, place-is s p z 0 l (sym e) (λ j m f. absurd (omega (arith, m))), l))
+
+  -- the day behind the first is there, too
+  next-there : (z : ℤ) → z ≡ fieldAt s 2 0 0 +ℤ pos 1 → hasDay s z ≡ true
+  next-there z e =
+      let l : 1 < countOf s 2 = omega (arith, o .days) in
+      lt-ltb (placeBy s 2 z) (countOf s 2) (omega (arith, day-place s (o .accepted) z 1 l e, l))
+
+  covered-at : (j : ℕ) → j < 3 → covers s (sampleEpoch (passOf s 0) j .day) ≡ true
+  unfolding covers dayOf
+  covered-at j l =
+      let e = o .on-first-day j l in
+      and-yes (there 2 _ (some 2 1 (o .days)) e) (next-there _ (ap (λ (d : ℤ). d +ℤ pos 1) e))
+
+  count-is : samplesOf (passOf s 0) ≡ 3
+  count-is = ap natAbs (o .samples)
+
+  covered : allCovered s (passOf s 0) ≡ true
+  unfolding allCovered
+  covered = below-all (samplesOf (passOf s 0)) _ (λ j l. covered-at j (omega (arith, l, count-is)))
+
+  named : allThere s (passOf s 0 .station1) (passOf s 0 .station2) (passOf s 0 .source) ≡ true
+  unfolding stationOf sourceOf
+  named =
+      and-yes (there 0 _ (some 0 0 (o .stations)) (o .first))
+      (and-yes (there 0 _ (some 0 0 (o .stations)) (o .second)) (there 1 _ (some 1 0 (o .sources)) (o .source)))
+
+  clear : samplesNumber s 0 4096 ≡ 0
+  clear = rw (named, covered) at (number-by s (o .accepted) 0 (some 3 0 (o .passes)))
+
+  samples-are : passSamples s 0 ≡ zeros
+  unfolding passSamples firstValues
+  samples-are =
+      rw count-is
+      (values-same 3 (sampleIn s (passOf s 0)) (λ (j : ℕ). pos 0) (λ j l. sample-same s (passOf s 0) j (o .first ∙ sym (o .second))))
+
+  pub prints-in-whole : sessionText s ≡ inWhole
+  unfolding sessionText passTexts passText passOutcome
+  prints-in-whole =
+      let room = replicate (4 * 2048) (pos 0) in
+      let d : 2048 ≤ length room / 4 = omega (arith, length-replicate (4 * 2048) (pos 0)) in
+      rw (o .accepted, o .passes, clear, samples-are, o .tolerance, always-enough zeros (pos 0) room zeros-in d, zeros-track) (two-lines room)
+
+-- ---- one such file
+
+smallest-accepted : refusalOf smallest ≡ 0
+unfolding bytesOf bytesOfAll bitsAt station source orientation pass places noLayout layoutIn standsIn startOf sectionsRight kindRight offsetRight countRight lengthRight contentsRight recordByte fieldRight recordRight sectionRight rangesRight steps stepRight orderRight refusalOf allBelow
+smallest-accepted = refl
+
+smallest-long : length smallest ≡ 304
+unfolding bytesOf bytesOfAll
+smallest-long = refl
+
+on-its-day : (j : ℕ) → j < 3 → sampleEpoch (passOf smallest 0) j .day ≡ dayOf smallest 0 .mjd
+unfolding bytesOf bytesOfAll bitsAt station source orientation pass places noLayout layoutIn recordByte passOf dayOf sampleEpoch laterOf
+on-its-day zero l = refl
+on-its-day (suc zero) l = refl
+on-its-day (suc (suc zero)) l = refl
+on-its-day (suc (suc (suc j))) l = absurd (omega (arith, l))
+
+smallest-is : OneStationTwice smallest
+unfolding bytesOf bytesOfAll bitsAt station source orientation pass places noLayout layoutIn recordByte stationOf sourceOf passOf
+smallest-is =
+    record {
+      accepted = smallest-accepted;
+      stations = refl;
+      sources = refl;
+      days = refl;
+      passes = refl;
+      first = refl;
+      second = refl;
+      source = refl;
+      samples = refl;
+      tolerance = refl;
+      on-first-day = on-its-day;
+    }
+
+-- what the program prints of it
+pub smallest-printed : (length smallest ≡ 304) × (sessionText smallest ≡ inWhole)
+smallest-printed = (smallest-long, prints-in-whole smallest smallest-is)
