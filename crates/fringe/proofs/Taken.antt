@@ -21,6 +21,7 @@ use Rattle.session.proofs.Answers.{asked-there, pass-yes}
 use Rattle.delay.proofs.Theorems.{samples-clear}
 use Rattle.track.specs.Answer.{Outcome, outcome, refused}
 use Rattle.fringe.specs.PassTrack.{passSamples, passOutcome}
+use Rattle.fringe.specs.Promises.{PassTrackPromise}
 
 -- ---- what `samples` answers, by its number
 
@@ -81,5 +82,5 @@ pub few : (s : List ℕ) (i l : ℕ) → samplesNumber s i l ≡ 0 → samplesOf
 few s i l e = leb-true (samplesOf (passOf s i)) l (samples-clear s i l e .enough)
 
 -- ---- any two results that the promise of `pass_track` allows are equal
-pub one-pass-track : (s : List ℕ) (i : ℕ) (room : List ℤ) (x y : Outcome) → x ≡ passOutcome s i room → y ≡ passOutcome s i room → x ≡ y
-one-pass-track s i room x y p q = p ∙ sym q
+pub one-pass-track : (s : List ℕ) (i : ℕ) (room : List ℤ) (r q : Number) (x y : List ℤ) → PassTrackPromise s i room r x → PassTrackPromise s i room q y → (r ≡ q) × (x ≡ y)
+one-pass-track s i room r q x y f g = let e = f ∙ sym g in (ap (λ (o : Outcome). o .answer) e, ap (λ (o : Outcome). o .room) e)

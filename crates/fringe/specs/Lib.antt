@@ -1,2 +1,3 @@
 pub mod PassTrack
+pub mod Promises
 pub mod Starred

@@ -1,13 +1,11 @@
 // What reaches across the layers: the track of a pass, which specs/PassTrack.antt defines, and the table of document 01's starred cases, specs/Starred.antt.
 use whole::Number;
 use whole::sign::size;
-ghost use mathlib.Core.Path.{_≡_};
-ghost use Rattle.track.specs.Answer.{Outcome};
-ghost use Rattle.fringe.specs.PassTrack.{passOutcome};
+ghost use Rattle.fringe.specs.Promises.{PassTrackPromise};
 
 // Writes the track of a pass, counted from 0, to the start of the room, four numbers to a segment, and answers how many segments that is.
 pub fn pass_track(file: &[u8], pass: usize, room: &mut [i64]) -> Number
-    ensures { λ r. ⌜ _≡_ {A = Outcome} (record { answer = r; room = now (room .exit) }) (passOutcome (now (file .entry)) pass (now (room .entry))) ⌝ }
+    ensures { λ r. ⌜ PassTrackPromise (now (file .entry)) pass (now (room .entry)) r (now (room .exit)) ⌝ }
 {
     let mut samples = [0i64; 4096];
     let taken = delay::samples(file, pass, &mut samples);
