@@ -12,14 +12,14 @@ use Rattle.whole.specs.declared.Number.{Number}
 use Rattle.predict.specs.declared.Host.{Host}
 use Rattle.whole.specs.Answers.{noNumber}
 use Rattle.predict.specs.Lent.{Lent, lentOf, soundFrom, covers, coveredBy, predicted, answerAt, predictOutcome}
-use Rattle.predict.specs.Host.{hostOutcome}
+use Rattle.predict.specs.Promises.{PredictPromise, HostPromise}
 use Rattle.predict.proofs.Numbers.{good, sound-head, covered, passed}
 
 -- any two results that a promise allows are equal
-pub one-prediction : (s : List ℤ) (k : ℕ) (x y : Number) → x ≡ predictOutcome s k → y ≡ predictOutcome s k → x ≡ y
+pub one-prediction : (s : List ℤ) (k : ℕ) (x y : Number) → PredictPromise s k x → PredictPromise s k y → x ≡ y
 one-prediction s k x y p q = p ∙ sym q
 
-pub one-host : (s : List ℤ) (k : ℕ) (x y : Host) → x ≡ hostOutcome s k → y ≡ hostOutcome s k → x ≡ y
+pub one-host : (s : List ℤ) (k : ℕ) (x y : Host) → HostPromise s k x → HostPromise s k y → x ≡ y
 one-host s k x y p q = p ∙ sym q
 
 -- the value

@@ -1,4 +1,5 @@
 pub mod Lent
 pub mod Host
+pub mod Promises
 pub mod Ends
 pub mod Starred

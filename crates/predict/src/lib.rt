@@ -1,8 +1,6 @@
 // The delay that a lent track predicts at a sample, and the host record of it. Document 01, 'Track' and refusal 9.
 // specs/Lent.antt says which tracks are malformed and what a sound one predicts; specs/Host.antt what the record holds.
-ghost use mathlib.Core.Path.{_≡_};
-ghost use Rattle.predict.specs.Lent.{predictOutcome};
-ghost use Rattle.predict.specs.Host.{hostOutcome};
+ghost use Rattle.predict.specs.Promises.{PredictPromise, HostPromise};
 use whole::Number;
 
 mod doubles;
@@ -11,7 +9,7 @@ mod segment;
 
 // The prediction at the sample, in ps.
 pub fn predict(track: &[i64], sample: u64) -> Number
-    ensures { λ r. ⌜ r ≡ predictOutcome (now (track .entry)) sample ⌝ }
+    ensures { λ r. ⌜ PredictPromise (now (track .entry)) sample r ⌝ }
 {
     if !lent::sound(track) {
         return Number {
@@ -37,7 +35,7 @@ pub struct Host {
 
 // The host record of the prediction at the sample.
 pub fn host_at(track: &[i64], sample: u64) -> Host
-    ensures { λ r. ⌜ r ≡ hostOutcome (now (track .entry)) sample ⌝ }
+    ensures { λ r. ⌜ HostPromise (now (track .entry)) sample r ⌝ }
 {
     let n = predict(track, sample);
     let refusal = n.refusal;

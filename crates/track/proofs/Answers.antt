@@ -9,16 +9,19 @@ use borrow.Author.Tests.{lt-leb, le-leb}
 use lib.ListN.{length}
 use lib.IntN.{ℤ, pos}
 use Rattle.whole.specs.Whole.{posPart}
+use Rattle.whole.specs.declared.Number.{Number}
 use Rattle.fit.proofs.Tests.{lt-or}
 use Rattle.track.specs.Segments.{Segment, IsTrack}
 use Rattle.track.specs.Made.{trackOf}
 use Rattle.track.specs.Answer.{inRange, Outcome, refused, written, outcome}
+use Rattle.track.specs.Promises.{TrackPromise}
 use Rattle.track.proofs.Ranged.{ranged}
 use Rattle.track.proofs.Theorems.{trackOf-track, trackOf-fewest, trackOf-half}
 
 -- any two results that the promise allows are equal
-pub one-result : (s : List ℤ) (t : ℤ) (room : List ℤ) (x y : Outcome) → x ≡ outcome s t room → y ≡ outcome s t room → x ≡ y
-one-result s t room x y p q = p ∙ sym q
+pub one-result : (s : List ℤ) (t : ℤ) (room : List ℤ) (x y : Number) (after other : List ℤ) → TrackPromise s t room x after → TrackPromise s t room y other
+    → (x ≡ y) × (after ≡ other)
+one-result s t room x y after other p q = let e = p ∙ sym q in (ap (λ (o : Outcome). o .answer) e, ap (λ (o : Outcome). o .room) e)
 
 module _ (s : List ℤ) (t : ℤ) (room : List ℤ) where
   pub answer-2 : inRange s t ≡ false → outcome s t room ≡ refused 2 room

@@ -2,4 +2,5 @@ pub mod Segments
 pub mod Rule
 pub mod Made
 pub mod Answer
+pub mod Promises
 pub mod Starred

@@ -1,7 +1,6 @@
 // The track of samples: the fewest segments, each within the tolerance of its samples. Document 01, 'Track'.
 // specs/Segments.antt says what a track is, specs/Rule.antt which one is made, specs/Answer.antt what the call answers.
-ghost use mathlib.Core.Path.{_≡_};
-ghost use Rattle.track.specs.Answer.{Outcome, outcome};
+ghost use Rattle.track.specs.Promises.{TrackPromise};
 use whole::Number;
 
 mod count;
@@ -10,7 +9,7 @@ mod write;
 
 // Writes the track of the samples to the start of the room, four numbers to a segment, and answers how many segments that is.
 pub fn track(samples: &[i64], tolerance: i64, room: &mut [i64]) -> Number
-    ensures { λ r. ⌜ _≡_ {A = Outcome} (record { answer = r; room = now (room .exit) }) (outcome (now (samples .entry)) tolerance (now (room .entry))) ⌝ }
+    ensures { λ r. ⌜ TrackPromise (now (samples .entry)) tolerance (now (room .entry)) r (now (room .exit)) ⌝ }
 {
     if !range::call_in_range(samples, tolerance) {
         return Number {
