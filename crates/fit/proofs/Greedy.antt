@@ -1,13 +1,12 @@
 -- The greedy cover of the samples `s .. n - 1` by runs that fit is the shortest, for any test `fit start count` that holds of one sample and
 -- of each part of a run of which it holds.
-use mathlib.Core.Path.{_≡_, refl, sym, ap, subst, _∙_}
+use mathlib.Core.Path.{_≡_, refl, subst}
 use mathlib.Core.Bool.{Bool, true, false, not}
 use mathlib.Core.List.{List, [], _∷_}
 use mathlib.Core.Logic.{⊎-elim}
 use Prim.Native.Nat.{ℕ, zero, suc, _+_, _*_, _-_, _≤_, _<_, min}
 use native.Mathlib.Omega.{arith}
-use borrow.Author.Tests.{eq-eqb, ne-eqb}
-use lib.Dec.{T, T-not, eqb, ltb, ltb→lt, nltb→le}
+use lib.Dec.{T, T-not, ltb, ltb→lt, nltb→le}
 use lib.ListN.{length}
 use Rattle.fit.specs.Greedy.{grow, longest, counts, Cover, done, step}
 use Rattle.fit.proofs.Tests.{by-test, lt-or}
@@ -46,14 +45,6 @@ module _ (fit : ℕ → ℕ → Bool) (cap n : ℕ) (cap-pos : 1 ≤ cap)
       short : (b : Bool) → b ≡ ltb c d → T (not (fit s (suc c))) → d ≤ c
       short true e t = absurd (T-not (fit s (suc c)) t (prefix s d (suc c) (omega arith) (ltb→lt c d (subst T e tt)) f))
       short false e t = nltb→le c d (subst (λ (b : Bool). T (not b)) e tt)
-
-  -- a run of m samples fits exactly if a run grown to at most m has that many
-  pub grow-whole : (m s : ℕ) → 1 ≤ m → eqb (grow fit (m - 1) s 1) m ≡ fit s m
-  grow-whole m s h = by-bool (fit s m) refl
-    where
-      by-bool : (b : Bool) → b ≡ fit s m → eqb (grow fit (m - 1) s 1) m ≡ b
-      by-bool true e = eq-eqb (grow fit (m - 1) s 1) m (omega (arith, grow-to (m - 1) s 1, grow-most (m - 1) s 1 m h (omega arith) (subst T e tt)))
-      by-bool false e = ne-eqb (grow fit (m - 1) s 1) m (λ k. subst T (sym (e ∙ ap (λ (z : ℕ). fit s z) (sym k))) (grow-fits (m - 1) s 1 (one s)))
 
   pub longest-pos : (s : ℕ) → 1 ≤ longest fit cap n s
   unfolding longest

@@ -80,31 +80,3 @@ pub fn longest_run(
     }
     Run { count: c, least: l }
 }
-
-// Whether some line fits the `count` samples from `first`.
-pub fn fits_part(samples: &[i64], tolerance: u64, first: usize, count: usize) -> bool
-    requires { ⌜ (1 ≤ count) × (count ≤ 1024) × (first + count ≤ length (now samples)) ⌝ }
-    requires { ⌜ Small (now samples) ⌝ }
-    requires { ⌜ tolerance ≤ 1_000_000 ⌝ }
-    ensures { λ r. ⌜ r ≡ fitOf (now (samples .entry)) tolerance first count ⌝ }
-{
-    let mut xa: [u32; 1024] = [0; 1024];
-    let mut va: [u64; 1024] = [0; 1024];
-    let mut qa: [u64; 1024] = [0; 1024];
-    let mut xb: [u32; 1024] = [0; 1024];
-    let mut vb: [u64; 1024] = [0; 1024];
-    let mut qb: [u64; 1024] = [0; 1024];
-    let run = longest_run(
-        samples,
-        tolerance,
-        first,
-        count,
-        &mut xa,
-        &mut va,
-        &mut qa,
-        &mut xb,
-        &mut vb,
-        &mut qb,
-    );
-    run.count == count
-}

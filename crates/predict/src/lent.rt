@@ -1,23 +1,20 @@
 // A lent track, read segment by segment.
 ghost use mathlib.Core.Path.{_≡_};
 ghost use mathlib.Core.Bool.{true};
-ghost use Prim.Native.Nat.{_^_, _≤_};
-ghost use Rattle.whole.specs.Whole.{∣_∣, R};
 ghost use Rattle.predict.specs.Lent.{lentOf, soundFrom, answerAt};
 use super::segment::segment_ok;
 use whole::Number;
-use whole::divide::floor_div;
-use whole::divide::half;
+use whole::divide::round_div;
 use whole::sign::size;
 
 // Whether no segment is malformed; each one is looked at.
 pub fn sound(track: &[i64]) -> bool
     ensures { λ r. ⌜ r ≡ soundFrom 0 (lentOf (now (track .entry))) ⌝ }
 {
-    let all = track.len() / 4;
+    let m = track.len() / 4;
     let mut at: u64 = 0;
     let mut i: usize = 0;
-    while i < all {
+    while i < m {
         let b = 4 * i;
         let first = track[b];
         let count = track[b + 1];
@@ -30,14 +27,6 @@ pub fn sound(track: &[i64]) -> bool
         i += 1;
     }
     true
-}
-
-// R(x / 65,536), by a floor: the half that is added sends a tie away from zero.
-fn rounded(x: i64) -> i64
-    requires { ⌜ ∣ x ∣ ≤ 2 ^ 60 ⌝ }
-    ensures { λ r. ⌜ r ≡ R x 65536 ⌝ }
-{
-    floor_div(x + half(x, 32768), 65536)
 }
 
 // The prediction at the sample of a track that is sound; 9 where no segment covers it.
@@ -58,7 +47,7 @@ pub fn prediction_at(track: &[i64], sample: u64) -> Number
             let j = (sample - at) as i64;
             return Number {
                 refusal: 0,
-                value: rounded(offset + rate * j),
+                value: round_div(offset + rate * j, 65536),
             };
         }
         at = end;

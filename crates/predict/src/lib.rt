@@ -38,15 +38,14 @@ pub fn host_at(track: &[i64], sample: u64) -> Host
     ensures { λ r. ⌜ HostPromise (now (track .entry)) sample r ⌝ }
 {
     let n = predict(track, sample);
-    let refusal = n.refusal;
-    if refusal <= 0 {
+    if n.refusal == 0 {
         return Host {
-            refusal: refusal,
+            refusal: 0,
             record: doubles::record_of(n.value),
         };
     }
     Host {
-        refusal: refusal,
+        refusal: n.refusal,
         record: Record {
             seconds: 0.0,
             cycles: 0.0,

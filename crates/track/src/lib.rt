@@ -21,17 +21,15 @@ pub fn track(samples: &[i64], tolerance: i64, room: &mut [i64]) -> Number
     let mut rates: [u64; 2048] = [0; 2048];
     let t = tolerance as u64;
     let m = count::count_segments(samples, t, &mut counts, &mut rates);
-    let places = room.len() / 4;
-    let many = if places < m { 0 } else { m };
-    write::write_segments(samples, t, &counts, &rates, many, room);
-    if many < m {
+    if room.len() / 4 < m {
         return Number {
             refusal: 8,
             value: 0,
         };
     }
+    write::write_segments(samples, t, &counts, &rates, room);
     Number {
         refusal: 0,
-        value: many as i64,
+        value: m as i64,
     }
 }

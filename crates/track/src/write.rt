@@ -2,7 +2,7 @@
 ghost use mathlib.Core.Path.{_≡_};
 ghost use mathlib.Core.List.{_++_};
 ghost use Prim.Native.Nat.{_+_, _*_, _<_, _≤_};
-ghost use lib.ListN.{length, take, drop, set};
+ghost use lib.ListN.{length, drop, set};
 ghost use Rattle.fit.specs.Line.{Small};
 ghost use Rattle.track.specs.Segments.{flat};
 ghost use Rattle.track.specs.Made.{trackOf, Stored};
@@ -18,26 +18,25 @@ fn put(room: &mut [i64], at: usize, a: i64, b: i64, c: i64, d: i64)
     room[at + 3] = d;
 }
 
-// Writes the first `many` segments of the track, whose runs are noted in `counts` and `rates`, to the start of the room, which has place for them.
+// Writes the track, whose runs are noted in `counts` and `rates`, to the start of the room, which has place for it.
 pub fn write_segments(
     samples: &[i64],
     tolerance: u64,
     counts: &[u16; 2048],
     rates: &[u64; 2048],
-    many: usize,
     room: &mut [i64],
 )
     requires { ⌜ Small (now samples) × (length (now samples) ≤ 4096) ⌝ }
     requires { ⌜ tolerance ≤ 1_000_000 ⌝ }
-    requires { ⌜ (many ≤ length (trackOf (now samples) tolerance)) × Stored (now samples) tolerance (now counts) (now rates) many ⌝ }
-    requires { do ⌜ 4 * many ≤ (← ⟦room.len()⟧) ⌝ }
-    ensures { λ _. ⌜ now (room .exit) ≡ take (4 * many) (flat (trackOf (now (samples .entry)) tolerance)) ++ drop (4 * many) (now (room .entry)) ⌝ }
+    requires { ⌜ Stored (now samples) tolerance (now counts) (now rates) (length (trackOf (now samples) tolerance)) ⌝ }
+    requires { do ⌜ 4 * length (trackOf (now samples) tolerance) ≤ (← ⟦room.len()⟧) ⌝ }
+    ensures { λ _. ⌜ now (room .exit) ≡ flat (trackOf (now (samples .entry)) tolerance) ++ drop (4 * length (trackOf (now (samples .entry)) tolerance)) (now (room .entry)) ⌝ }
 {
+    let n = samples.len();
     let mut f: usize = 0;
     let mut m: usize = 0;
-    while m < many {
-        let k = counts[m];
-        let c = k as usize;
+    while f < n {
+        let c = counts[m] as usize;
         let line = line_of(samples, tolerance, f, c, rates[m]);
         put(room, 4 * m, f as i64, c as i64, line.offset, line.rate);
         f += c;

@@ -1,7 +1,8 @@
 -- `predict::host_at` meets its contract.
 use mathlib.Core.Path.{_≡_, sym, ap, subst, _∙_}
-use mathlib.Core.Bool.{Bool, true, false, cond}
-use Prim.Native.Nat.{_≤_}
+use mathlib.Core.Bool.{Bool, true, false, cond, _&&_}
+use mathlib.Core.List.{List}
+use Prim.Native.Nat.{ℕ, _≤_}
 use native.Mathlib.Omega.{arith}
 use borrow.Author.Needs.{needs}
 use lib.Ieee.{ofBits, ofInt}
@@ -13,9 +14,9 @@ use Rattle.whole.specs.Whole.{∣_∣}
 use Rattle.whole.proofs.Linear.{back, abs-fits}
 use Rattle.whole.specs.declared.Number.{Number}
 use Rattle.predict.specs.declared.Record.{Record}
-use Rattle.predict.specs.Lent.{predictOutcome}
+use Rattle.predict.specs.Lent.{lentOf, soundFrom, coveredBy, predictOutcome}
 use Rattle.predict.specs.Host.{recordOf, zeros, hostOutcome}
-use Rattle.predict.proofs.Answers.{value-size, number-size}
+use Rattle.predict.proofs.Answers.{value-size, number-size, numberFor, the-number}
 use Rattle.predict.proofs.host_at.Statement.{statement}
 use Rattle.predict.proofs.host_at.Tie as tie
 
@@ -34,7 +35,7 @@ number-is c = let x = c .before .args in
     ∙ back {z = predictOutcome (x .track .now) (x .sample) .refusal} (abs-fits (omega (arith, number-size (x .track .now) (x .sample))))
 
 record-of-requires : tie.Need-record-of-requires
-record-of-requires c κs = let p = c .before .before .before in
+record-of-requires c κs = let p = c .before .before .before .before in
     subst (λ (z : ℤ). ∣ z ∣ ≤ 131_000_000_000) (sym (value-is p)) (value-size (p .before .args .track .now) (p .before .args .sample))
 
 -- which of the two records
@@ -46,16 +47,24 @@ other b x y h = cc
 
 returns : tie.Need-returns
 unfolding hostOutcome
-returns c = let d = c .before .before in let p = d .before .before in let x = p .before .args in let n = predictOutcome (x .track .now) (x .sample) in
-    let t : leZ (n .refusal) (pos 0) ≡ true = ap (λ (z : ℤ). leZ z (pos 0)) (sym (number-is p)) ∙ d .if1 .taken in
+returns c = let d = c .before .before in let p = d .before .before .before in let x = p .before .args in let n = predictOutcome (x .track .now) (x .sample) in
+    let z : pos 0 ≡ n .refusal = sym (ap (toZ w64) (d .if1 .taken)) ∙ number-is p in
     let r : c .record-of .result ≡ cond (leZ (n .refusal) (pos 0)) (recordOf (n .value)) zeros =
-    c .record-of .ensures ∙ ap recordOf (value-is p) ∙ picked (leZ (n .refusal) (pos 0)) (recordOf (n .value)) zeros t in
-    λ i. record { refusal = number-is p i; «record» = r i }
+    c .record-of .ensures ∙ ap recordOf (value-is p) ∙ picked (leZ (n .refusal) (pos 0)) (recordOf (n .value)) zeros (ap (λ (y : ℤ). leZ y (pos 0)) (sym z)) in
+    λ i. record { refusal = z i; «record» = r i }
+
+-- a number that is not 0 is 9, so it is above 0
+above : (s : List ℤ) (k : ℕ) → (predictOutcome s k .refusal ≡ pos 0 → ⊥) → leZ (predictOutcome s k .refusal) (pos 0) ≡ false
+above s k h = go (soundFrom 0 (lentOf s) && coveredBy (lentOf s) k) (the-number s k)
+  where
+    go : (b : Bool) → predictOutcome s k .refusal ≡ numberFor b → leZ (predictOutcome s k .refusal) (pos 0) ≡ false
+    go true e = absurd (h e)
+    go false e = ap (λ (z : ℤ). leZ z (pos 0)) e
 
 returns-2 : tie.Need-returns-2
 unfolding hostOutcome ofBits ofInt
-returns-2 c = let p = c .before .before in let x = p .before .args in let n = predictOutcome (x .track .now) (x .sample) in
-    let t : leZ (n .refusal) (pos 0) ≡ false = ap (λ (z : ℤ). leZ z (pos 0)) (sym (number-is p)) ∙ c .if1 .left in
+returns-2 c = let d = c .before in let p = d .before .before .before in let x = p .before .args in let n = predictOutcome (x .track .now) (x .sample) in
+    let t : leZ (n .refusal) (pos 0) ≡ false = above (x .track .now) (x .sample) (λ e. d .if1 .left (ap (λ (m : Number). ofZ w64 (m .refusal)) (p .predict .ensures) ∙ ap (ofZ w64) e)) in
     let r : zeros ≡ cond (leZ (n .refusal) (pos 0)) (recordOf (n .value)) zeros = other (leZ (n .refusal) (pos 0)) (recordOf (n .value)) zeros t in
     λ i. record { refusal = number-is p i; «record» = r i }
 

@@ -121,13 +121,13 @@ sub-j c = place c .0
 cast-j : tie.Need-cast-j Inv-loop μ-loop
 cast-j c = record { sfits = omega (arith, place c .2) }
 
-mul-rounded : tie.Need-mul-rounded Inv-loop μ-loop
-mul-rounded c = let d = c .before .before .before .before .before in let a = d .before in let x = lentAt (a .before .args .track .now) (a .loop .i) in let j = a .before .args .sample - a .loop .at in
+mul-round-div : tie.Need-mul-round-div Inv-loop μ-loop
+mul-round-div c = let d = c .before .before .before .before .before in let a = d .before in let x = lentAt (a .before .args .track .now) (a .loop .i) in let j = a .before .args .sample - a .loop .at in
     subst (λ (z : ℤ). SFits w64 z) (sym (product (x .offset) (x .rate) (record { sfits = c .before .offset .given }) (record { sfits = c .rate .given }) j (place c .2) (is-good d .offset) (is-good d .reached j (place c .1))))
     (product-fits (x .offset) (x .rate) (record { sfits = c .before .offset .given }) (record { sfits = c .rate .given }) j (place c .2) (is-good d .offset) (is-good d .reached j (place c .1)))
 
-add-rounded : tie.Need-add-rounded Inv-loop μ-loop
-add-rounded c = let d = c .before .before .before .before .before in let a = d .before in let x = lentAt (a .before .args .track .now) (a .loop .i) in let j = a .before .args .sample - a .loop .at in
+add-round-div : tie.Need-add-round-div Inv-loop μ-loop
+add-round-div c = let d = c .before .before .before .before .before in let a = d .before in let x = lentAt (a .before .args .track .now) (a .loop .i) in let j = a .before .args .sample - a .loop .at in
     subst (λ (z : ℤ). SFits w64 z) (sym (sum (x .offset) (x .rate) (record { sfits = c .before .offset .given }) (record { sfits = c .rate .given }) j (place c .2) (is-good d .offset) (is-good d .reached j (place c .1))))
     (sum-fits (x .offset) (x .rate) (record { sfits = c .before .offset .given }) (record { sfits = c .rate .given }) j (place c .2) (is-good d .offset) (is-good d .reached j (place c .1)))
 
@@ -136,15 +136,15 @@ line-is : (c : tie.After-rate Inv-loop μ-loop) → let a = c .before .before .b
 line-is c = let d = c .before .before .before .before .before in let a = d .before in let x = lentAt (a .before .args .track .now) (a .loop .i) in let j = a .before .args .sample - a .loop .at in
     line (x .offset) (x .rate) (record { sfits = c .before .offset .given }) (record { sfits = c .rate .given }) j (place c .2) (is-good d .offset) (is-good d .reached j (place c .1))
 
-rounded-requires : tie.Need-rounded-requires Inv-loop μ-loop
-rounded-requires c κs = let d = c .before .before .before .before .before in let j = d .before .before .args .sample - d .before .loop .at in
-    subst (λ (z : ℤ). ∣ z ∣ ≤ 2 ^ 60) (sym (line-is c)) (omega (arith, is-good d .reached j (place c .1)))
+round-div-requires : tie.Need-round-div-requires Inv-loop μ-loop
+round-div-requires c κs = let d = c .before .before .before .before .before in let j = d .before .before .args .sample - d .before .loop .at in
+    (subst (λ (z : ℤ). ∣ z ∣ < 2 ^ 63) (sym (line-is c)) (omega (arith, is-good d .reached j (place c .1))), omega arith, omega arith)
 
 returns : tie.Need-returns Inv-loop μ-loop
 returns c = let b = c .before in let d = b .before .before .before .before .before in let a = d .before in let s = a .before .args .track .now in let k = a .before .args .sample in
     let x = lentAt s (a .loop .i) in let j = k - a .loop .at in
-    let v : c .rounded .result ≡ predicted x (pos j) = c .rounded .ensures ∙ ap (λ (z : ℤ). R z 65536) (line-is b) in
-    let w : toZ w64 (ofZ w64 (c .rounded .result)) ≡ predicted x (pos j) =
+    let v : c .round-div .result ≡ predicted x (pos j) = c .round-div .ensures ∙ ap (λ (z : ℤ). R z 65536) (line-is b) in
+    let w : toZ w64 (ofZ w64 (c .round-div .result)) ≡ predicted x (pos j) =
     ap (λ (z : ℤ). toZ w64 (ofZ w64 z)) v ∙ back {z = predicted x (pos j)} (abs-fits (omega (arith, is-good d .predictions j (place b .1)))) in
     (λ i. record { refusal = pos 0; value = w i })
     ∙ sym (covered (a .loop .at) x (is-good d) (lentOf (drop (4 * (a .loop .i + 1)) s)) k (place b .0) (omega (arith, place b)))
@@ -193,9 +193,9 @@ prediction-at-spec =
     shared-slice-copy-out-rate
     sub-j
     cast-j
-    mul-rounded
-    add-rounded
-    rounded-requires
+    mul-round-div
+    add-round-div
+    round-div-requires
     returns
     add-i
     loop-less

@@ -1,41 +1,40 @@
 -- `track::write_segments` meets its contract.
 use mathlib.Core.Path.{_≡_, refl, sym, ap, subst, _∙_}
-use mathlib.Core.List.{_∷_, _++_}
-use mathlib.Core.Logic.{⊎-elim}
+use mathlib.Core.List.{List, _∷_, _++_}
 use Prim.Native.Nat.{ℕ, _+_, _*_, _-_, _≤_, _<_}
 use native.Mathlib.Omega.{arith}
 use native.Mathlib.Nat.{zero-add}
 use lib.Dec.{T}
 use lib.IntN.{ℤ, pos}
 use lib.ListN.{length, take, drop, getD}
+use lib.Seq.{take-all}
 use mir.Syntax.{w64}
 use mir.Val.{toZ, ofZ}
 use mir.ValLaws.{toZ-pos}
 use Rattle.whole.proofs.Linear.{back, abs-fits}
 use Rattle.fit.specs.Rates.{fitOf, least, offsetOf, rateOf}
-use Rattle.fit.proofs.Tests.{lt-or}
 use Rattle.fit.proofs.Lines.{offset-size, rate-size}
 use Rattle.track.specs.Segments.{flat}
 use Rattle.track.specs.Made.{trackOf, runOf, segOf, startAt}
-use Rattle.track.proofs.Runs.{restOf, trackOf-start, rest-step, restOf-none, run-pos, run-within, run-cap, run-fits, startAt-next}
+use Rattle.track.proofs.Runs.{restOf, flat-length, trackOf-start, rest-step, restOf-none, run-pos, run-within, run-cap, run-fits, startAt-next}
 use Rattle.track.proofs.Theorems.{trackOf-half}
 use Rattle.track.proofs.Room.{put-again}
 use Rattle.track.proofs.write.write_segments.Statement.{statement}
 use Rattle.track.proofs.write.write_segments.Tie as tie
 
 abbrev Inv-loop : tie.InvT-loop
-Inv-loop s t ks ps many room₀ f₀ m₀ room f m =
-    (m ≤ many) × (f ≤ length s) × (m ≤ f) × (m + length (restOf s t (length s - m) f) ≡ length (trackOf s t))
+Inv-loop s t ks ps room₀ n f₀ m₀ room f m =
+    (n ≡ length s) × (f ≤ n) × (m ≤ f) × (m + length (restOf s t (length s - m) f) ≡ length (trackOf s t))
     × (length room ≡ length room₀) × (drop (4 * m) (flat (trackOf s t)) ≡ flat (restOf s t (length s - m) f))
     × (room ≡ take (4 * m) (flat (trackOf s t)) ++ drop (4 * m) room₀) × (f ≡ startAt s t m)
 
 abbrev μ-loop : tie.MeasureT-loop
-μ-loop s t ks ps many room₀ f₀ m₀ room f m = many - m
+μ-loop s t ks ps room₀ n f₀ m₀ room f m = n - f
 
 loop-holds : tie.Need-loop-holds Inv-loop μ-loop
 unfolding startAt
 loop-holds c = (
-  omega arith,
+  refl,
   omega arith,
   omega arith,
   zero-add _ ∙ ap length (trackOf-start (c .args .samples .now) (c .args .tolerance)),
@@ -48,16 +47,17 @@ loop-holds c = (
 -- the run at m: as noted, it is the longest from f, and fits
 run : (c : tie.In-loop Inv-loop μ-loop) → let a = c .before in let x = a .before .args in let s = x .samples .now in let t = x .tolerance in let f = a .loop .f in
     let k = getD (x .counts .now) (a .loop .m) 0 in
-    (f < length s) × (1 ≤ k) × (k ≤ 1024) × (f + k ≤ length s) × T (fitOf s t f k)
+    (a .loop .m < length (trackOf s t)) × (1 ≤ k) × (k ≤ 1024) × (f + k ≤ length s) × T (fitOf s t f k)
     × (restOf s t (length s - a .loop .m) f ≡ segOf s t f k ∷ restOf s t (length s - (a .loop .m + 1)) (f + k))
     × (getD (x .rates .now) (a .loop .m) 0 ≡ least s t f k) × (k ≡ runOf s t f) × (a .loop .m < 2048)
 run c = let a = c .before in let x = a .before .args in let s = x .samples .now in let t = x .tolerance in let f = a .loop .f in let m = a .loop .m in
     let k = getD (x .counts .now) m 0 in
     let sm = a .before .pre .0 .0 in let tl = a .before .pre .1 .0 in
-    let st = a .before .pre .1 .1 .0 .1 m (omega (arith, c .loop-test .taken)) in
-    let e : k ≡ runOf s t f = st .0 ∙ ap (λ (z : ℕ). runOf s t z) (sym (a .loop .inv .7)) in
-    let h : f < length s = ⊎-elim (λ l. l) (λ l. absurd (omega (arith, ap length (restOf-none s t (length s - m) f l), a .loop .inv .3, a .before .pre .1 .1 .0 .0, c .loop-test .taken))) (lt-or f (length s)) in (
-      h,
+    let h : f < length s = omega (arith, c .loop-test .taken, a .loop .inv .0) in
+    let l : m < length (trackOf s t) = omega (arith, ap length (rest-step s t f m (runOf s t f) h (a .loop .inv .2) refl), a .loop .inv .3) in
+    let st = a .before .pre .1 .1 .0 m l in
+    let e : k ≡ runOf s t f = st .0 ∙ ap (λ (z : ℕ). runOf s t z) (sym (a .loop .inv .7)) in (
+      l,
       omega (arith, run-pos s t sm tl f),
       omega (arith, run-cap s t sm tl f h),
       omega (arith, run-within s t sm tl f h),
@@ -65,14 +65,14 @@ run c = let a = c .before in let x = a .before .args in let s = x .samples .now 
       rest-step s t f m k h (a .loop .inv .2) e,
       st .1 ∙ ap (λ (z : ℕ). least s t z (runOf s t z)) (sym (a .loop .inv .7)) ∙ ap (λ (z : ℕ). least s t f z) (sym e),
       e,
-      omega (arith, c .loop-test .taken, a .before .pre .0 .1, a .before .pre .1 .1 .0 .0, trackOf-half s t sm tl),
+      omega (arith, a .before .pre .0 .1, trackOf-half s t sm tl),
     )
 
-mul-k : tie.Need-mul-k Inv-loop μ-loop
-mul-k c = omega (arith, run c)
+mul-c : tie.Need-mul-c Inv-loop μ-loop
+mul-c c = omega (arith, run c)
 
-element-copy-out-k : tie.Need-element-copy-out-k Inv-loop μ-loop
-element-copy-out-k c = run c .8
+element-copy-out-c : tie.Need-element-copy-out-c Inv-loop μ-loop
+element-copy-out-c c = run c .8
 
 cast-c : tie.Need-cast-c Inv-loop μ-loop
 cast-c c = omega (arith, run (c .before))
@@ -89,7 +89,7 @@ line-of-requires c κs = let b = c .before .before in let q = b .before .before 
 
 -- the room has place for the segment
 place : (c : tie.In-loop Inv-loop μ-loop) → 4 * c .before .loop .m + 3 < length (c .before .before .args .room .now)
-place c = omega (arith, c .loop-test .taken, c .before .before .pre .1 .1 .1)
+place c = omega (arith, run c .0, c .before .before .pre .1 .1 .1)
 
 mul-put : tie.Need-mul-put Inv-loop μ-loop
 mul-put c = omega (arith, run (c .before .before .before .before))
@@ -110,7 +110,7 @@ add-m : tie.Need-add-m Inv-loop μ-loop
 add-m c = let b = c .before .before .before .before .before .before .before .before in omega (arith, run b)
 
 loop-less : tie.Need-loop-less Inv-loop μ-loop
-loop-less c = let b = c .before .before .before .before .before .before .before .before in omega (arith, b .loop-test .taken)
+loop-less c = let b = c .before .before .before .before .before .before .before .before in omega (arith, run b, b .loop-test .taken)
 
 loop-again : tie.Need-loop-again Inv-loop μ-loop
 unfolding flat segOf
@@ -132,8 +132,8 @@ loop-again c =
     (toZ-pos w64 f (omega (arith, r, a .before .pre .0 .1))) (toZ-pos w64 k (omega (arith, r)))
     (ap (λ (z : ℤ). toZ w64 (ofZ w64 z)) (l .line-of .ensures .0) ∙ back {z = offsetOf s t f k} (abs-fits (omega (arith, offset-size s t (a .before .pre .0 .0) (a .before .pre .1 .0) f k (r .1) (r .4)))))
     (ap (λ (z : ℤ). toZ w64 (ofZ w64 z)) (l .line-of .ensures .1) ∙ back {z = rateOf s t f k} (abs-fits (omega (arith, rate-size s t (a .before .pre .0 .0) (a .before .pre .1 .0) f k (r .4))))) in (
-      omega (arith, b .loop-test .taken),
-      r .3,
+      a .loop .inv .0,
+      omega (arith, r .3, a .loop .inv .0),
       omega (arith, r, a .loop .inv .2),
       omega (arith, ap length n, a .loop .inv .3),
       c .before .put .kept .0 ∙ a .loop .inv .4,
@@ -149,9 +149,12 @@ returns : tie.Need-returns Inv-loop μ-loop
 returns c =
     let a = c .before in
     let x = a .before .args in
-    let F = flat (trackOf (x .samples .now) (x .tolerance)) in
-    let e : a .loop .m ≡ x .many = omega arith in
-    a .loop .inv .6 ∙ ap (λ (z : ℕ). take (4 * z) F ++ drop (4 * z) (x .room .now)) e
+    let s = x .samples .now in
+    let xs = trackOf s (x .tolerance) in
+    let l : length s ≤ a .loop .f = omega (arith, c .loop-test .left, a .loop .inv .0) in
+    let e : a .loop .m ≡ length xs = omega (arith, ap length (restOf-none s (x .tolerance) (length s - a .loop .m) (a .loop .f) l), a .loop .inv .3) in
+    a .loop .inv .6 ∙ ap (λ (z : ℕ). take (4 * z) (flat xs) ++ drop (4 * z) (x .room .now)) e
+    ∙ ap (λ (z : List ℤ). z ++ drop (4 * length xs) (x .room .now)) (take-all (4 * length xs) (flat xs) (omega (arith, flat-length xs)))
 
 pub write-segments-spec : {M : Type 1} → statement M
 write-segments-spec =
@@ -160,8 +163,8 @@ write-segments-spec =
     Inv-loop
     μ-loop
     loop-holds
-    mul-k
-    element-copy-out-k
+    mul-c
+    element-copy-out-c
     cast-c
     mul-line-of
     element-copy-out-line-of
