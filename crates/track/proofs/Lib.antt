@@ -3,4 +3,5 @@ pub mod Runs
 pub mod Room
 pub mod Ranged
 pub mod Answers
+pub mod Fewest
 pub mod Starred

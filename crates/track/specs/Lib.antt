@@ -3,4 +3,5 @@ pub mod Rule
 pub mod Made
 pub mod Answer
 pub mod Promises
+pub mod Fewest
 pub mod Starred
