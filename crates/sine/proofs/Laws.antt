@@ -6,12 +6,13 @@ use lib.IntN.{ℤ, pos, negℤ, negℤ-negℤ}
 use Rattle.whole.specs.Whole.{∣_∣}
 use Rattle.whole.proofs.Linear.{posPart-neg, negPart-neg}
 use Rattle.sine.specs.Sine.{stepsOf, sBy, S, quarter, sineOf, cosineOf}
+use Rattle.sine.specs.Promises.{SinePromise, CosinePromise}
 
 -- ---- any two results that a promise allows are equal
-pub sine-one : (a : ℕ) (r s : ℤ) → r ≡ sineOf a → s ≡ sineOf a → r ≡ s
+pub sine-one : (a : ℕ) (r s : ℤ) → SinePromise a r → SinePromise a s → r ≡ s
 sine-one a r s p q = p ∙ sym q
 
-pub cosine-one : (a : ℕ) (r s : ℤ) → r ≡ cosineOf a → s ≡ cosineOf a → r ≡ s
+pub cosine-one : (a : ℕ) (r s : ℤ) → CosinePromise a r → CosinePromise a s → r ≡ s
 cosine-one a r s p q = p ∙ sym q
 
 -- ---- at most 2^30 either side

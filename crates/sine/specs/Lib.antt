@@ -1,3 +1,4 @@
 pub mod Sine
 pub mod Taylor
 pub mod Starred
+pub mod Promises

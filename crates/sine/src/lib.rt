@@ -2,7 +2,8 @@ use whole::sign::with_sign;
 ghost use mathlib.Core.Path.{_≡_};
 ghost use mathlib.Core.Bool.{cond};
 ghost use Prim.Native.Nat.{_*_, _-_, _/_, _%_, _^_, _≤_, _<_};
-ghost use Rattle.sine.specs.Sine.{yOf, zOf, stepOf, S, sineOf, cosineOf};
+ghost use Rattle.sine.specs.Sine.{yOf, zOf, stepOf, S};
+ghost use Rattle.sine.specs.Promises.{SinePromise, CosinePromise};
 
 // The argument of S in radians, scaled by 2^30.
 fn y_of(r: u64) -> u64
@@ -55,7 +56,7 @@ fn turned(back: bool, r: u64) -> u64
 
 // The sine of a tick, scaled by 2^30.
 pub fn sine(a: u32) -> i64
-    ensures { λ r. ⌜ r ≡ sineOf a ⌝ }
+    ensures { λ r. ⌜ SinePromise a r ⌝ }
 {
     let q = a / 1073741824;
     let r = (a % 1073741824) as u64;
@@ -65,7 +66,7 @@ pub fn sine(a: u32) -> i64
 
 // The cosine of a tick, scaled by 2^30.
 pub fn cosine(a: u32) -> i64
-    ensures { λ r. ⌜ r ≡ cosineOf a ⌝ }
+    ensures { λ r. ⌜ CosinePromise a r ⌝ }
 {
     sine(std::num::wrapping_add_u32(a, 1073741824))
 }
