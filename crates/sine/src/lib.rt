@@ -61,7 +61,7 @@ pub fn sine(a: u32) -> i64
     let q = a / 1073741824;
     let r = (a % 1073741824) as u64;
     let t = turned(q % 2 == 1, r);
-    with_sign(2 <= q, s_of(t))
+    with_sign(q >= 2, s_of(t))
 }
 
 // The cosine of a tick, scaled by 2^30.

@@ -32,7 +32,7 @@ pub fn nearest(a: u64, b: u64) -> u64
     (a + b / 2) / b
 }
 
-// R(a/b): nearest, halves away from zero.
+// R(a/b): nearest, halves away from zero. Each sign has its branch: one call with the test for a sign costs more instructions.
 pub fn round_div(a: i64, b: u64) -> i64
     requires { ⌜ (∣ a ∣ < 2 ^ 63) × (0 < b) × (b ≤ 2 ^ 63) ⌝ }
     ensures { λ r. ⌜ r ≡ R a b ⌝ }

@@ -46,16 +46,11 @@ pub fn argument_product(rate: i64, n: i64) -> u64
     ensures { λ r. ⌜ r ≡ modZ (rate *ℤ n) 681644160000000000 ⌝ }
 {
     let m = size_product(size(rate), size(n));
-    if rate < 0 {
-        if n < 0 {
-            return m;
-        }
-        return turned_back(m);
+    if (rate < 0) == (n < 0) {
+        m
+    } else {
+        turned_back(m)
     }
-    if n < 0 {
-        return turned_back(m);
-    }
-    m
 }
 
 // floor(2^32·e / 10^17), for e below 10^17 = 2^17·762,939,453,125.

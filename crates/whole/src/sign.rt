@@ -27,5 +27,5 @@ pub fn with_sign(negative: bool, n: u64) -> i64
     requires { ⌜ n < 2 ^ 63 ⌝ }
     ensures { λ r. ⌜ r ≡ signOf negative n ⌝ }
 {
-    if negative { 0 - (n as i64) } else { n as i64 }
+    if negative { -(n as i64) } else { n as i64 }
 }

@@ -1,6 +1,6 @@
 -- `whole::long::argument_product` meets its contract: the product of the sizes, turned back where the signs differ.
-use mathlib.Core.Path.{_≡_, sym, ap, _∙_}
-use mathlib.Core.Bool.{Bool, true, false}
+use mathlib.Core.Path.{_≡_, sym, ap, ap₂, _∙_}
+use mathlib.Core.Bool.{Bool, true, false, cond, Bool·beq}
 use Prim.Native.Nat.{ℕ, _-_, _*_, _%_}
 use borrow.Author.Needs.{needs}
 use native.Mathlib.Omega.{arith}
@@ -16,38 +16,34 @@ use Rattle.whole.proofs.long.argument_product.Tie as tie
 abbrev turn : ℕ
 turn = 681644160000000000
 
--- the product by its signs and sizes
-abbrev product : Bool → Bool → ℕ → ℕ → ℕ
-product true true a b = a * b % turn
-product true false a b = (turn - a * b % turn) % turn
-product false true a b = (turn - a * b % turn) % turn
-product false false a b = a * b % turn
+-- the product by its sizes, and by whether the signs are the same
+abbrev product : Bool → ℕ → ℕ → ℕ
+product same a b = cond same (a * b % turn) ((turn - a * b % turn) % turn)
 
-by-signs : (s t : Bool) (a b : ℕ) → modZ (signOf s a *ℤ signOf t b) turn ≡ product s t a b
-by-signs true true a b = ap (λ (z : ℤ). modZ z turn) (by≡ (⊖ (# a) ⊗ ⊖ (# b)) (# (a * b)) (omega arith))
-by-signs true false a b = ap (λ (z : ℤ). modZ z turn) (by≡ (⊖ (# a) ⊗ # b) (⊖ (# (a * b))) (omega arith)) ∙ mod-neg (a * b) turn (omega arith)
-by-signs false true a b = ap (λ (z : ℤ). modZ z turn) (by≡ (# a ⊗ ⊖ (# b)) (⊖ (# (a * b))) (omega arith)) ∙ mod-neg (a * b) turn (omega arith)
-by-signs false false a b = ap (λ (z : ℤ). modZ z turn) (by≡ (# a ⊗ # b) (# (a * b)) (omega arith))
+by-signs : (s t : Bool) (a b : ℕ) → product (Bool·beq s t) a b ≡ modZ (signOf s a *ℤ signOf t b) turn
+by-signs true true a b = ap (λ (z : ℤ). modZ z turn) (by≡ (# (a * b)) (⊖ (# a) ⊗ ⊖ (# b)) (omega arith))
+by-signs true false a b = sym (mod-neg (a * b) turn (omega arith)) ∙ ap (λ (z : ℤ). modZ z turn) (by≡ (⊖ (# (a * b))) (⊖ (# a) ⊗ # b) (omega arith))
+by-signs false true a b = sym (mod-neg (a * b) turn (omega arith)) ∙ ap (λ (z : ℤ). modZ z turn) (by≡ (⊖ (# (a * b))) (# a ⊗ ⊖ (# b)) (omega arith))
+by-signs false false a b = ap (λ (z : ℤ). modZ z turn) (by≡ (# (a * b)) (# a ⊗ # b) (omega arith))
 
 module _ (c : tie.After-size-product) where
+  abbrev start : tie.Start
+  start = c .before .before .before
+
   abbrev rate : ℤ
-  rate = c .before .before .before .args .rate
+  rate = start .args .rate
 
   abbrev n : ℤ
-  n = c .before .before .before .args .n
+  n = start .args .n
 
   -- the code's product of sizes
   got : c .size-product .result ≡ ∣ rate ∣ * ∣ n ∣ % turn
-  got =
-      simp
-      (c .before .before .size .ensures, c .before .size2 .ensures, back (c .before .before .before .fits .rate), back (c .before .before .before .fits .n))
-      at (c .size-product .ensures)
+  got = simp (c .before .before .size .ensures, c .before .size2 .ensures, back (start .fits .rate), back (start .fits .n)) at (c .size-product .ensures)
 
-  is : (s t : Bool) → ltZ rate (pos 0) ≡ s → ltZ n (pos 0) ≡ t → product s t ∣ rate ∣ ∣ n ∣ ≡ modZ (rate *ℤ n) turn
-  is s t e f =
-      sym (by-signs s t ∣ rate ∣ ∣ n ∣)
-      ∙ ap (λ (z : ℤ). modZ (z *ℤ signOf t ∣ n ∣) turn) (rw e at (sign-split rate))
-      ∙ ap (λ (z : ℤ). modZ (rate *ℤ z) turn) (rw f at (sign-split n))
+  is : (same : Bool) → Bool·beq (ltZ rate (pos 0)) (ltZ n (pos 0)) ≡ same → product same ∣ rate ∣ ∣ n ∣ ≡ modZ (rate *ℤ n) turn
+  is same e =
+      rw e at (by-signs (ltZ rate (pos 0)) (ltZ n (pos 0)) ∣ rate ∣ ∣ n ∣)
+      ∙ ap₂ (λ (y z : ℤ). modZ (y *ℤ z) turn) (sign-split rate) (sign-split n)
 
 size-requires : tie.Need-size-requires
 size-requires c κs = search needs
@@ -64,46 +60,16 @@ size-product-requires c κs =
 
 returns : tie.Need-returns
 returns c =
-    let p = c .before .before in
-    let s = p .before .before .before in
-    got p ∙ is p true true (rw (back (s .fits .rate)) at (c .before .if1 .taken)) (rw (back (s .fits .n)) at (c .if2 .taken))
+    let p = c .before in
+    got p ∙ is p true (rw (back (start p .fits .rate), back (start p .fits .n)) at (c .if1 .taken))
 
 turned-back-requires : tie.Need-turned-back-requires
 turned-back-requires c κs = search needs
 
 returns-2 : tie.Need-returns-2
 returns-2 c =
-    let d = c .before in
-    let p = d .before .before in
-    let s = p .before .before .before in
-    rw (got p) at (c .turned-back .ensures) ∙ is p true false (rw (back (s .fits .rate)) at (d .before .if1 .taken)) (rw (back (s .fits .n)) at (d .if2 .left))
-
-turned-back-requires-2 : tie.Need-turned-back-requires-2
-turned-back-requires-2 c κs = search needs
-
-returns-3 : tie.Need-returns-3
-returns-3 c =
-    let d = c .before in
-    let p = d .before .before in
-    let s = p .before .before .before in
-    rw (got p) at (c .turned-back2 .ensures) ∙ is p false true (rw (back (s .fits .rate)) at (d .before .if1 .left)) (rw (back (s .fits .n)) at (d .if3 .taken))
-
-returns-4 : tie.Need-returns-4
-returns-4 c =
     let p = c .before .before in
-    let s = p .before .before .before in
-    got p ∙ is p false false (rw (back (s .fits .rate)) at (c .before .if1 .left)) (rw (back (s .fits .n)) at (c .if3 .left))
+    rw (got p) at (c .turned-back .ensures) ∙ is p false (rw (back (start p .fits .rate), back (start p .fits .n)) at (c .before .if1 .left))
 
 pub argument-product-spec : {M : Type 1} → statement M
-argument-product-spec =
-    tie.close
-    (tie.spec
-    size-requires
-    size-requires-2
-    size-product-requires
-    returns
-    turned-back-requires
-    returns-2
-    turned-back-requires-2
-    returns-3
-    returns-4)
+argument-product-spec = tie.close (tie.spec size-requires size-requires-2 size-product-requires turned-back-requires returns returns-2)
