@@ -36,6 +36,13 @@ pub sign-split : (z : ℤ) → signOf (ltZ z (pos 0)) ∣ z ∣ ≡ z
 sign-split (pos n) = simp (leb·suc-zero, add-zero)
 sign-split (negsuc n) = simp zero-add
 
+-- and by any test that tells its sign
+pub sign-by : (t : Bool) (z : ℤ) → (t ≡ true → z ≤ℤ pos 0) → (t ≡ false → pos 0 ≤ℤ z) → signOf t ∣ z ∣ ≡ z
+sign-by true (pos n) neg non = let l = neg refl in let e : n ≡ 0 = omega zarith in rw e
+sign-by true (negsuc n) neg non = simp zero-add
+sign-by false (pos n) neg non = simp add-zero
+sign-by false (negsuc n) neg non = absurd (non refl .le)
+
 -- R by the sign and the size, as code that splits the sign off first has it
 pub R-split : (z : ℤ) (b : ℕ) → signOf (ltZ z (pos 0)) (near ∣ z ∣ b) ≡ R z b
 R-split (pos n) b = simp (leb·suc-zero, add-zero)
@@ -114,11 +121,14 @@ tie-down : line (pos 1) (pos 0) (pos 43200000) ≡ pos 0
 tie-down = refl
 
 -- ---- the code's forms of R
--- (a + b / 2) / b is the nearest too, for odd b as for even.
-pub near-half : (a b : ℕ) → (a + b / 2) / b ≡ near a b
-near-half a b =
-    let e : a + b / 2 ≡ (2 * a + b) / 2 = omega arith in
+-- (a + h) / b is the nearest too, where h is half of b, rounded down
+pub near-by : (a b h : ℕ) → 2 * h ≤ b → b ≤ 2 * h + 1 → (a + h) / b ≡ near a b
+near-by a b h l u =
+    let e : a + h ≡ (2 * a + b) / 2 = omega arith in
     ap (λ (n : ℕ). n / b) e ∙ div-div-eq-div-mul (2 * a + b) 2 b
+
+pub near-half : (a b : ℕ) → (a + b / 2) / b ≡ near a b
+near-half a b = near-by a b (b / 2) (omega arith) (omega arith)
 
 -- the floor is the one whole number q with q·b ≤ z < q·b + b
 pub floor-unique : (z q : ℤ) (b : ℕ) → 0 < b → (q *ℤ pos b) ≤ℤ z → z <ℤ (q *ℤ pos b +ℤ pos b) → floorZ z b ≡ q

@@ -1,13 +1,12 @@
 -- `whole::divide::floor_div` meets its contract.
 use mathlib.Core.Path.{_≡_, refl, ap, _∙_}
-use mathlib.Core.Bool.{true, false}
 use Prim.Native.Nat.{ℕ, _/_}
 use lib.IntN.{ℤ, pos, negsuc, _-ℤ_}
-use lib.Signed.{_≤ℤ_, leZ, quotZ}
+use lib.Signed.{_≤ℤ_, _<ℤ_, quotZ}
 use mir.Syntax.{w64}
 use mir.Val.{SFits}
 use Rattle.whole.specs.Whole.{posPart, floorZ}
-use Rattle.whole.proofs.Linear.{zarith, known, sub-lawℤ, leZ-false, no-ft, back, quot-fits, div-ok}
+use Rattle.whole.proofs.Linear.{zarith, known, sub-lawℤ, back, quot-fits, div-ok}
 use Rattle.whole.proofs.divide.floor_div.Statement.{statement}
 use Rattle.whole.proofs.divide.floor_div.Tie as tie
 
@@ -21,15 +20,15 @@ flip n = omega (zarith, sub-lawℤ (negsuc 0) (pos n))
 flop : (n : ℕ) → negsuc 0 -ℤ negsuc n ≡ pos n
 flop n = omega (zarith, sub-lawℤ (negsuc 0) (negsuc n))
 
-up : (x b : ℤ) → pos 1 ≤ℤ b → leZ (pos 0) x ≡ true → quotZ x b ≡ floorZ x (posPart b)
-up (pos a) (pos b) h t = refl
-up (pos a) (negsuc b) h t = absurd (h .le)
-up (negsuc a) b h t = no-ft t
+up : (x b : ℤ) → pos 1 ≤ℤ b → pos 0 ≤ℤ x → quotZ x b ≡ floorZ x (posPart b)
+up (pos a) (pos b) h l = refl
+up (pos a) (negsuc b) h l = absurd (h .le)
+up (negsuc a) b h l = absurd (l .le)
 
-down : (x b : ℤ) → pos 1 ≤ℤ b → leZ (pos 0) x ≡ false → negsuc 0 -ℤ quotZ (negsuc 0 -ℤ x) b ≡ floorZ x (posPart b)
-down (pos a) b h t = absurd (omega (zarith, leZ-false (pos 0) (pos a) t))
-down (negsuc a) (pos b) h t = ap (λ (z : ℤ). negsuc 0 -ℤ quotZ z (pos b)) (flop a) ∙ flip (a / b)
-down (negsuc a) (negsuc b) h t = absurd (h .le)
+down : (x b : ℤ) → pos 1 ≤ℤ b → x <ℤ pos 0 → negsuc 0 -ℤ quotZ (negsuc 0 -ℤ x) b ≡ floorZ x (posPart b)
+down (pos a) b h l = absurd (omega zarith)
+down (negsuc a) (pos b) h l = ap (λ (z : ℤ). negsuc 0 -ℤ quotZ z (pos b)) (flop a) ∙ flip (a / b)
+down (negsuc a) (negsuc b) h l = absurd (h .le)
 
 module _ (s : tie.Start) where
   f : SFits w64 (negsuc 0 -ℤ s .args .x)
@@ -56,14 +55,16 @@ sub-result-2 c = let s = c .before in simp (back, s .fits .x, s .fits .b, f s, g
 returns : tie.Need-returns
 returns c =
     let s = c .before in
+    let t = rw (back (s .fits .x)) at (c .if1 .taken) in
     simp (back, s .fits .x, s .fits .b, quot-fits (s .args .x) (s .args .b) (s .pre) (s .fits .x))
-    (up (s .args .x) (s .args .b) (s .pre) (simp (back, s .fits .x) at (c .if1 .taken)))
+    (up (s .args .x) (s .args .b) (s .pre) (omega zarith))
 
 returns-2 : tie.Need-returns-2
 returns-2 c =
     let s = c .before in
+    let t = rw (back (s .fits .x)) at (c .if1 .left) in
     simp (back, s .fits .x, s .fits .b, f s, g s, below (g s))
-    (down (s .args .x) (s .args .b) (s .pre) (simp (back, s .fits .x) at (c .if1 .left)))
+    (down (s .args .x) (s .args .b) (s .pre) (omega zarith))
 
 pub floor-div-spec : {M : Type 1} → statement M
 floor-div-spec =

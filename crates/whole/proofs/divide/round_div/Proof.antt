@@ -1,20 +1,26 @@
 -- `whole::divide::round_div` meets its contract.
-use mathlib.Core.Path.{_≡_, _∙_}
-use mathlib.Core.Bool.{Bool, true, false}
+use mathlib.Core.Path.{_≡_, refl, _∙_}
+use mathlib.Core.Bool.{true, false}
 use Prim.Native.Nat.{ℕ}
 use borrow.Author.Needs.{needs}
+use native.Mathlib.Nat.{add-zero, zero-add}
 use native.Mathlib.Omega.{arith}
-use lib.IntN.{ℤ, pos}
-use lib.Signed.{ltZ}
+use lib.IntN.{ℤ, pos, negsuc}
+use lib.Signed.{_≤ℤ_, _<ℤ_}
 use Rattle.whole.specs.Whole.{∣_∣, near, signOf, R}
-use Rattle.whole.proofs.Linear.{known, back, ret}
-use Rattle.whole.proofs.Rounding.{near-le, R-split}
+use Rattle.whole.proofs.Linear.{zarith, known, back, ret}
+use Rattle.whole.proofs.Rounding.{near-le}
 use Rattle.whole.proofs.divide.round_div.Statement.{statement}
 use Rattle.whole.proofs.divide.round_div.Tie as tie
 
--- R of a number whose sign is tested
-R-of : (t : Bool) (z : ℤ) (b : ℕ) → ltZ z (pos 0) ≡ t → signOf t (near ∣ z ∣ b) ≡ R z b
-R-of t z b e = rw e at (R-split z b)
+-- R of a number whose sign is known
+below : (z : ℤ) (b : ℕ) → z <ℤ pos 0 → signOf true (near ∣ z ∣ b) ≡ R z b
+below (pos n) b l = absurd (omega zarith)
+below (negsuc n) b l = simp zero-add
+
+above : (z : ℤ) (b : ℕ) → pos 0 ≤ℤ z → signOf false (near ∣ z ∣ b) ≡ R z b
+above (pos n) b l = simp add-zero
+above (negsuc n) b l = absurd (l .le)
 
 size-requires : tie.Need-size-requires
 size-requires c κs = search needs
@@ -43,14 +49,16 @@ returns c =
     let t = c .before .before .before in
     let s = t .before in
     let e = simp (c .before .nearest .ensures, c .before .before .size .ensures, back (s .fits .a)) at (c .with-sign .ensures) in
-    ret (c .with-sign .result) (c .with-sign .ok) ∙ e ∙ R-of true (s .args .a) (s .args .b) (rw (back (s .fits .a)) at (t .if1 .taken))
+    let l = rw (back (s .fits .a)) at (t .if1 .taken) in
+    ret (c .with-sign .result) (c .with-sign .ok) ∙ e ∙ below (s .args .a) (s .args .b) (omega zarith)
 
 returns-2 : tie.Need-returns-2
 returns-2 c =
     let t = c .before .before .before in
     let s = t .before in
     let e = simp (c .before .nearest2 .ensures, c .before .before .size2 .ensures, back (s .fits .a)) at (c .with-sign2 .ensures) in
-    ret (c .with-sign2 .result) (c .with-sign2 .ok) ∙ e ∙ R-of false (s .args .a) (s .args .b) (rw (back (s .fits .a)) at (t .if1 .left))
+    let l = rw (back (s .fits .a)) at (t .if1 .left) in
+    ret (c .with-sign2 .result) (c .with-sign2 .ok) ∙ e ∙ above (s .args .a) (s .args .b) (omega zarith)
 
 pub round-div-spec : {M : Type 1} → statement M
 round-div-spec =

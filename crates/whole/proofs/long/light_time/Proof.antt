@@ -7,9 +7,9 @@ use native.Mathlib.Omega.{arith}
 use lib.IntN.{ℤ, pos, _*ℤ_}
 use lib.Signed.{ltZ}
 use Rattle.whole.specs.Whole.{∣_∣, signOf, near, R}
-use Rattle.whole.proofs.Linear.{back, ret}
+use Rattle.whole.proofs.Linear.{zarith, back, ret}
 use Rattle.whole.proofs.Quote.{#, _⊗_, ⊖, by≡}
-use Rattle.whole.proofs.Rounding.{sign-split, R-neg}
+use Rattle.whole.proofs.Rounding.{sign-by, R-neg}
 use Rattle.whole.proofs.long.light_time.Statement.{statement}
 use Rattle.whole.proofs.long.light_time.Tie as tie
 
@@ -22,6 +22,10 @@ with-signs true n =
     sym (R-neg (pos (n * 1000000000)) 299792458 (omega arith))
     ∙ ap (λ (z : ℤ). R z 299792458) (by≡ (⊖ (# (n * 1000000000))) (⊖ (# n) ⊗ # 1000000000) (omega arith))
 with-signs false n = ap (λ (z : ℤ). R z 299792458) (by≡ (# (n * 1000000000)) (# n ⊗ # 1000000000) (omega arith))
+
+-- the code's test for a sign
+abbrev negative : ℤ → Bool
+negative g = ltZ g (pos 0)
 
 size-of : (c : tie.After-size) → c .size .result ≡ ∣ c .before .args .g ∣
 size-of c = rw (back (c .before .fits .g)) at (c .size .ensures)
@@ -53,8 +57,8 @@ returns c =
     let g = s .args .g in
     ret (c .with-sign .result) (c .with-sign .ok)
     ∙ simp (parts, size-of (c .before), back (s .fits .g)) at (c .with-sign .ensures)
-    ∙ with-signs (ltZ g (pos 0)) ∣ g ∣
-    ∙ ap (λ (z : ℤ). R (z *ℤ pos 1000000000) 299792458) (sign-split g)
+    ∙ with-signs (negative g) ∣ g ∣
+    ∙ ap (λ (z : ℤ). R (z *ℤ pos 1000000000) 299792458) (sign-by (negative g) g (λ t. omega zarith) (λ t. omega zarith))
 
 pub light-time-spec : {M : Type 1} → statement M
 light-time-spec =

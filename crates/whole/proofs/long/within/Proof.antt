@@ -1,16 +1,15 @@
 -- `whole::long::within` meets its contract.
 use mathlib.Core.Path.{_≡_, sym, _∙_}
-use mathlib.Core.Bool.{_&&_}
-use Prim.Native.Nat.{_^_, _≤_}
+use Prim.Native.Nat.{ℕ, _^_, _≤_}
 use borrow.Author.Needs.{needs}
 use borrow.Author.Tests.{lt-leb}
 use native.Mathlib.Nat.{lt-of-le-of-lt}
 use native.Mathlib.Omega.{arith}
-use lib.Dec.{lit<}
-use lib.IntN.{ℤ, pos, negsuc, _*ℤ_}
-use lib.Signed.{leZ}
+use lib.Dec.{lit<, lit≤}
+use lib.IntN.{pos, negℤ, _*ℤ_}
 use mir.Syntax.{w64}
 use mir.Val.{SFits}
+use Rattle.whole.specs.Ranges.{within}
 use Rattle.whole.specs.Whole.{∣_∣, floorZ}
 use Rattle.whole.proofs.Far.{near, far}
 use Rattle.whole.proofs.Linear.{abs-fits, back}
@@ -29,8 +28,12 @@ high c =
     var (c .upper-part .result) 19531250000000 (rw (floor-of-r c) (floor-abs (s .args .r) 1024 19531250000000 (omega arith) (omega arith)))
     ⊠ var (s .args .j) 1023 (s .pre .0 .2)
 
+-- the code's limit
+abbrev limit : ℕ
+limit = 35184372088832
+
 -- what the range test showed, of the number meant
-shown : (c : tie.After-in-range) → c .in-range .result ≡ (leZ (negsuc 35184372088831) (floorZ (c .before .before .args .r) 1024 *ℤ c .before .before .args .j) && leZ (floorZ (c .before .before .args .r) 1024 *ℤ c .before .before .args .j) (pos 35184372088832))
+shown : (c : tie.After-in-range) → c .in-range .result ≡ within (negℤ (pos limit)) (pos limit) (floorZ (c .before .before .args .r) 1024 *ℤ c .before .before .args .j)
 shown c =
     let e = simp (is (high (c .before)) tt) at (c .in-range .ensures) in
     e ∙ simp (floor-of-r (c .before))
@@ -40,7 +43,7 @@ module _ (c : tie.Else1) where
   start = c .before .before .before
 
   small : ∣ start .args .r *ℤ start .args .j ∣ ≤ 2 ^ 56
-  small = near (start .args .r) (start .args .j) (start .pre .0 .2) (passed (shown (c .before)) (c .if1 .left))
+  small = near (start .args .r) (start .args .j) (start .pre .0 .2) limit (lit≤ tt) (passed (shown (c .before)) (c .if1 .left))
 
   fits : SFits w64 (start .args .r *ℤ start .args .j)
   fits = abs-fits (lt-of-le-of-lt small (lit< tt))
@@ -57,7 +60,7 @@ in-range-requires c κs = search needs
 returns : tie.Need-returns
 returns c =
     let s = c .before .before .before in
-    sym (lt-leb _ _ (far (s .args .r) (s .args .j) (s .pre .0 .2) (s .args .a) (s .args .s) (s .args .k) (s .pre .0 .0) (s .pre .1 .0) (s .pre .1 .1) (failed (shown (c .before)) (c .if1 .taken))))
+    sym (lt-leb _ _ (far (s .args .r) (s .args .j) (s .pre .0 .2) limit (s .args .a) (s .args .s) (s .args .k) (omega arith) (failed (shown (c .before)) (c .if1 .taken))))
 
 mul-within-by : tie.Need-mul-within-by
 mul-within-by c = simp (back (start c .fits .r), back (start c .fits .j)) (fits c)

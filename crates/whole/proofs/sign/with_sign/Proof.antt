@@ -1,29 +1,34 @@
 -- `whole::sign::with_sign` meets its contract.
 use borrow.Author.Needs.{needs}
-use lib.IntN.{ℤ, pos, _-ℤ_, +ℤ-idl}
 use mir.Syntax.{w64}
 use mir.Val.{SFits}
 use mir.Facts.{toZ-ofZ, toZ-pos}
 use Prim.Native.Nat.{ℕ, _<_, _^_}
 use Rattle.whole.proofs.Linear.{zarith}
-use Rattle.whole.proofs.Quote.{#, _⊝_, fit}
+use Rattle.whole.proofs.Quote.{E, ev, #, _⊝_, ⊖, by≡, fit}
 use Rattle.whole.proofs.sign.with_sign.Statement.{statement}
 use Rattle.whole.proofs.sign.with_sign.Tie as tie
 
-neg-fits : (m : ℕ) → m < 2 ^ 63 → SFits w64 (pos 0 -ℤ pos m)
-neg-fits m h = fit (# 0 ⊝ # m) (omega zarith)
+-- what the code forms
+abbrev minus : ℕ → E
+minus m = # 0 ⊝ # m
+
+fits : (m : ℕ) → m < 2 ^ 63 → SFits w64 (ev (minus m))
+fits m h = fit (minus m) (omega zarith)
 
 cast-result : tie.Need-cast-result
 cast-result c = search needs
 
 sub-result : tie.Need-sub-result
-sub-result c = simp (toZ-pos w64 (c .before .pre)) (neg-fits _ (c .before .pre))
+sub-result c = simp (toZ-pos w64 (c .before .pre)) (fits _ (c .before .pre))
 
 cast-result-2 : tie.Need-cast-result-2
 cast-result-2 c = search needs
 
 returns : tie.Need-returns
-returns c = simp (toZ-pos w64 (c .before .pre), toZ-ofZ (neg-fits _ (c .before .pre)), c .if1 .taken) (+ℤ-idl _)
+returns c =
+    let n = c .before .args .n in
+    simp (toZ-pos w64 (c .before .pre), toZ-ofZ (fits n (c .before .pre)), c .if1 .taken) (by≡ (minus n) (⊖ (# n)) (omega zarith))
 
 returns-2 : tie.Need-returns-2
 returns-2 c = simp (toZ-pos w64 (c .before .pre), c .if1 .left)
