@@ -7,20 +7,19 @@ use Rattle.earth.specs.declared.EpochAnswer.{EpochAnswer}
 use Rattle.earth.specs.declared.TicksAnswer.{TicksAnswer}
 use Rattle.whole.specs.declared.Number.{Number}
 use Rattle.earth.specs.declared.AngleAnswer.{AngleAnswer}
-use Rattle.earth.specs.Rotation.{rotationOf}
-use Rattle.earth.specs.Calls.{laterOutcome, argumentsOutcome, tideOutcome, angleOutcome}
+use Rattle.earth.specs.Promises.{LaterPromise, ArgumentsPromise, TidePromise, AnglePromise, RotatePromise}
 
-pub later-one : (day ms add : ℤ) (r s : EpochAnswer) → r ≡ laterOutcome day ms add → s ≡ laterOutcome day ms add → r ≡ s
+pub later-one : (day ms add : ℤ) (r s : EpochAnswer) → LaterPromise day ms add r → LaterPromise day ms add s → r ≡ s
 later-one day ms add r s p q = p ∙ sym q
 
-pub arguments-one : (day ms tai : ℤ) (r s : TicksAnswer) → r ≡ argumentsOutcome day ms tai → s ≡ argumentsOutcome day ms tai → r ≡ s
+pub arguments-one : (day ms tai : ℤ) (r s : TicksAnswer) → ArgumentsPromise day ms tai r → ArgumentsPromise day ms tai s → r ≡ s
 arguments-one day ms tai r s p q = p ∙ sym q
 
-pub tide-one : (day ms tai : ℤ) (r s : Number) → r ≡ tideOutcome day ms tai → s ≡ tideOutcome day ms tai → r ≡ s
+pub tide-one : (day ms tai : ℤ) (r s : Number) → TidePromise day ms tai r → TidePromise day ms tai s → r ≡ s
 tide-one day ms tai r s p q = p ∙ sym q
 
-pub angle-one : (day f : ℤ) (r s : AngleAnswer) → r ≡ angleOutcome day f → s ≡ angleOutcome day f → r ≡ s
+pub angle-one : (day f : ℤ) (r s : AngleAnswer) → AnglePromise day f r → AnglePromise day f s → r ≡ s
 angle-one day f r s p q = p ∙ sym q
 
-pub rotate-one : (tick : ℕ) (r s : List (List ℤ)) → r ≡ rotationOf tick → s ≡ rotationOf tick → r ≡ s
+pub rotate-one : (tick : ℕ) (r s : List (List ℤ)) → RotatePromise tick r → RotatePromise tick s → r ≡ s
 rotate-one tick r s p q = p ∙ sym q

@@ -7,4 +7,5 @@ pub mod TideInUT1
 pub mod Angle
 pub mod Rotation
 pub mod Calls
+pub mod Promises
 pub mod Starred

@@ -17,8 +17,7 @@ ghost use mathlib.Core.Bool.{_&&_};
 ghost use lib.IntN.{pos};
 ghost use Rattle.whole.specs.Ranges.{within};
 ghost use Rattle.earth.specs.Ranges.{dayOk, msOk, fOk};
-ghost use Rattle.earth.specs.Rotation.{rotationOf};
-ghost use Rattle.earth.specs.Calls.{laterOutcome, argumentsOutcome, tideOutcome, angleOutcome};
+ghost use Rattle.earth.specs.Promises.{LaterPromise, ArgumentsPromise, TidePromise, AnglePromise, RotatePromise};
 
 #[repr(C)]
 pub struct EpochAnswer {
@@ -56,7 +55,7 @@ fn epoch_ok(day: i64, ms: i64, more: i64, most: i64) -> bool
 
 // The epoch that is `add` milliseconds later.
 pub fn later(day: i64, ms: i64, add: i64) -> EpochAnswer
-    ensures { λ r. ⌜ r ≡ laterOutcome day ms add ⌝ }
+    ensures { λ r. ⌜ LaterPromise day ms add r ⌝ }
 {
     if epoch_ok(day, ms, add, 14742000000) {
         let e = Epoch { day: day, ms: ms }.later(add);
@@ -75,7 +74,7 @@ pub fn later(day: i64, ms: i64, add: i64) -> EpochAnswer
 
 // n and the five arguments at an epoch, where TAI-UTC is `tai` seconds.
 pub fn arguments(day: i64, ms: i64, tai: i64) -> TicksAnswer
-    ensures { λ r. ⌜ r ≡ argumentsOutcome day ms tai ⌝ }
+    ensures { λ r. ⌜ ArgumentsPromise day ms tai r ⌝ }
 {
     if epoch_ok(day, ms, tai, 99) {
         let n = Epoch { day: day, ms: ms }.minutes(tai);
@@ -103,7 +102,7 @@ pub fn arguments(day: i64, ms: i64, tai: i64) -> TicksAnswer
 
 // The tide in UT1 in nanoseconds at an epoch, where TAI-UTC is `tai` seconds.
 pub fn tide(day: i64, ms: i64, tai: i64) -> Number
-    ensures { λ r. ⌜ r ≡ tideOutcome day ms tai ⌝ }
+    ensures { λ r. ⌜ TidePromise day ms tai r ⌝ }
 {
     if epoch_ok(day, ms, tai, 99) {
         let n = Epoch { day: day, ms: ms }.minutes(tai);
@@ -127,7 +126,7 @@ fn angle_ok(day: i64, f: i64) -> bool
 
 // E and ERA of a day and of f microseconds of it.
 pub fn angle_at(day: i64, f: i64) -> AngleAnswer
-    ensures { λ r. ⌜ r ≡ angleOutcome day f ⌝ }
+    ensures { λ r. ⌜ AnglePromise day f r ⌝ }
 {
     if angle_ok(day, f) {
         let e = turn_of(day, f);
@@ -146,7 +145,7 @@ pub fn angle_at(day: i64, f: i64) -> AngleAnswer
 
 // The rotation by a tick, as three rows of three.
 pub fn rotate(tick: u32) -> [[i64; 3]; 3]
-    ensures { λ r. ⌜ r ≡ rotationOf tick ⌝ }
+    ensures { λ r. ⌜ RotatePromise tick r ⌝ }
 {
     let c = sine::cosine(tick);
     let s = sine::sine(tick);
