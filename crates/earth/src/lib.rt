@@ -8,6 +8,8 @@ use rows::tide_at_minute;
 pub use ticks::Delaunay;
 use ticks::arguments_at;
 pub use time::Epoch;
+use time::FIRST_DAY;
+use time::LAST_DAY;
 use turn::turn_of;
 use whole::Number;
 use whole::long::rotation_ticks;
@@ -50,14 +52,14 @@ pub struct AngleAnswer {
 fn epoch_ok(day: i64, ms: i64, more: i64, most: i64) -> bool
     ensures { λ r. ⌜ r ≡ (dayOk day && (msOk ms && within (pos 0) most more)) ⌝ }
 {
-    in_range(day, 41317, 69806) && (in_range(ms, 0, 86399999) && in_range(more, 0, most))
+    in_range(day, FIRST_DAY, LAST_DAY) && (in_range(ms, 0, 86_399_999) && in_range(more, 0, most))
 }
 
 // The epoch that is `add` milliseconds later.
 pub fn later(day: i64, ms: i64, add: i64) -> EpochAnswer
     ensures { λ r. ⌜ LaterPromise day ms add r ⌝ }
 {
-    if epoch_ok(day, ms, add, 14742000000) {
+    if epoch_ok(day, ms, add, 14_742_000_000) {
         let e = Epoch { day: day, ms: ms }.later(add);
         return EpochAnswer {
             refusal: 0,
@@ -121,7 +123,7 @@ pub fn tide(day: i64, ms: i64, tai: i64) -> Number
 fn angle_ok(day: i64, f: i64) -> bool
     ensures { λ r. ⌜ r ≡ (dayOk day && fOk f) ⌝ }
 {
-    in_range(day, 41317, 69806) && in_range(f, -100000000, 86500000000)
+    in_range(day, FIRST_DAY, LAST_DAY) && in_range(f, -100_000_000, 86_500_000_000)
 }
 
 // E and ERA of a day and of f microseconds of it.
@@ -143,11 +145,11 @@ pub fn angle_at(day: i64, f: i64) -> AngleAnswer
     }
 }
 
-// The rotation by a tick, as three rows of three.
+// The rotation by a tick, as three rows of three, scaled by 2^30.
 pub fn rotate(tick: u32) -> [[i64; 3]; 3]
     ensures { λ r. ⌜ RotatePromise tick r ⌝ }
 {
     let c = sine::cosine(tick);
     let s = sine::sine(tick);
-    [[c, 0 - s, 0], [s, c, 0], [0, 0, 1073741824]]
+    [[c, -s, 0], [s, c, 0], [0, 0, 1_073_741_824]]
 }

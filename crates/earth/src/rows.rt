@@ -55,12 +55,12 @@ const TABLE: [[i64; 6]; 41] = [
     [-1, -1, 0, 2, 0, -9],
 ];
 
-// A multiplier times an argument, wrapping at 2^32. The bias is a multiple of 2^32.
+// A multiplier times an argument, wrapping at 2^32. The bias is 1,024·2^32: it is beyond any such product, and wraps to 0.
 fn times(multiplier: i64, tick: u32) -> u32
     requires { ⌜ ∣ multiplier ∣ ≤ 1000 ⌝ }
     ensures { λ r. ⌜ r ≡ modZ (multiplier *ℤ pos tick) (2 ^ 32) ⌝ }
 {
-    ((multiplier * (tick as i64) + 4398046511104) as u64 % 4294967296) as u32
+    ((multiplier * (tick as i64) + 4_398_046_511_104) as u64 % 4_294_967_296) as u32
 }
 
 // The sum of multiplier times argument, wrapping at 2^32.
@@ -104,12 +104,12 @@ fn table() -> [[i64; 6]; 41]
     TABLE
 }
 
-// The tide in nanoseconds, at n minutes of TT.
+// The tide in nanoseconds, at n minutes of TT. A sine is scaled by 2^30.
 pub fn tide_at_minute(n: i64) -> i64
     requires { ⌜ ∣ n ∣ < 2 ^ 26 ⌝ }
     ensures { λ r. ⌜ r ≡ tideAt n ⌝ }
 {
     let table = table();
     let t = rows_sum(&table, arguments_at(n));
-    round_div(1000 * t, 1073741824)
+    round_div(1_000 * t, 1_073_741_824)
 }

@@ -16,12 +16,13 @@ pub struct Delaunay {
     pub om: u32,
 }
 
-// One argument at n minutes of TT, of its constant and its rate per century. The constant times 52,596,000 is below M.
+// One argument at n minutes of TT, of its constant and its rate per century, which has 52,596,000 minutes. The turn is M of document 01; the
+// constant times 52,596,000 is below it.
 fn argument(constant: u64, rate: i64, n: i64) -> u32
-    requires { ⌜ (constant ≤ 12871047930) × (∣ rate ∣ < 2 ^ 44) × (∣ n ∣ < 2 ^ 26) ⌝ }
+    requires { ⌜ (constant ≤ 12_871_047_930) × (∣ rate ∣ < 2 ^ 44) × (∣ n ∣ < 2 ^ 26) ⌝ }
     ensures { λ r. ⌜ r ≡ argumentOf (pos constant) rate n ⌝ }
 {
-    let w = (constant * 52596000 + argument_product(rate, n)) % 681644160000000000;
+    let w = (constant * 52_596_000 + argument_product(rate, n)) % 681_644_160_000_000_000;
     argument_ticks(w)
 }
 
@@ -31,10 +32,10 @@ pub fn arguments_at(n: i64) -> Delaunay
     ensures { λ r. ⌜ r ≡ argumentsOf n ⌝ }
 {
     Delaunay {
-        l: argument(4858682490, 17179159232178, n),
-        lp: argument(12871047930, 1295965810481, n),
-        f: argument(3357795262, 17395272628478, n),
-        d: argument(10722607037, 16029616012090, n),
-        om: argument(4501603980, -69628905431, n),
+        l: argument(4_858_682_490, 17_179_159_232_178, n),
+        lp: argument(12_871_047_930, 1_295_965_810_481, n),
+        f: argument(3_357_795_262, 17_395_272_628_478, n),
+        d: argument(10_722_607_037, 16_029_616_012_090, n),
+        om: argument(4_501_603_980, -69_628_905_431, n),
     }
 }

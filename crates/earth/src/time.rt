@@ -4,6 +4,15 @@ ghost use Rattle.earth.specs.Ranges.{InDay, InMs, InTai, InAdd};
 ghost use Rattle.earth.specs.Epoch.{laterOf};
 ghost use Rattle.earth.specs.Minutes.{minutesOf};
 
+// The first day that a session file may have.
+pub(crate) const FIRST_DAY: i64 = 41_317;
+
+// The last.
+pub(crate) const LAST_DAY: i64 = 69_806;
+
+// Milliseconds of a day.
+const DAY: i64 = 86_400_000;
+
 // An MJD day, and a UTC millisecond of it.
 pub struct Epoch {
     pub day: i64,
@@ -18,16 +27,17 @@ impl Epoch {
     {
         let t = self.ms + add;
         Epoch {
-            day: self.day + t / 86400000,
-            ms: t % 86400000,
+            day: self.day + t / DAY,
+            ms: t % DAY,
         }
     }
 
-    // n, where TAI-UTC is `tai` seconds. Counted from day 41,317, which starts 14,727,600 minutes before J2000, nothing is below 0.
+    // n, where TAI-UTC is `tai` seconds; TT is 32,184 ms ahead of TAI. Counted from 0h of the first day, nothing is below 0. From there to
+    // J2000, noon of day 51,544, it is 10,227 days and a half, 14,727,600 minutes.
     pub fn minutes(self, tai: i64) -> i64
         requires { ⌜ InDay (self .day) × InMs (self .ms) × InTai tai ⌝ }
         ensures { λ r. ⌜ r ≡ minutesOf self tai ⌝ }
     {
-        ((self.day - 41317) * 86400000 + self.ms + 32184 + 1000 * tai) / 60000 - 14727600
+        ((self.day - FIRST_DAY) * DAY + self.ms + 32_184 + 1_000 * tai) / 60_000 - 14_727_600
     }
 }

@@ -1,28 +1,35 @@
 // The rotation angle, of a day and of f microseconds of it.
+use crate::time::FIRST_DAY;
 ghost use mathlib.Core.Path.{_≡_};
 ghost use Rattle.earth.specs.Ranges.{InDay, InF};
 ghost use Rattle.earth.specs.Angle.{fmOf, eOf};
 
-// fm, by a bias that keeps the dividend from going below 0.
+// fm. Counted from 100 s before 0h, which is the least f, nothing is below 0.
 fn whole_ms(f: i64) -> i64
     requires { ⌜ InF f ⌝ }
     ensures { λ r. ⌜ r ≡ fmOf f ⌝ }
 {
-    (f + 100000000) / 1000 - 100000
+    (f + 100_000_000) / 1_000 - 100_000
 }
 
-// E. Days are counted from 41,317 and microseconds from 108 s before 0h: each floor moves by a whole number, nothing is below 0, and the
-// constant takes up, modulo 10^17, what was added.
+// A turn, in the unit of E.
+const TURN: u64 = 100_000_000_000_000_000;
+
+// E on the first day, 108 s before 0h: document 01's 27,768,836,730,832,276 less what 10,227 days give, and less what 108 s give by the two
+// floors, 10·12,500,000,000,000 and 342,226,488,750, modulo a turn.
+const AT_START: u64 = 27_683_252_762_116_830;
+
+// E, counted from there. Nothing is below 0, and both floors move by a whole number.
 pub fn turn_of(day: i64, f: i64) -> u64
     requires { ⌜ InDay day × InF f ⌝ }
     ensures { λ r. ⌜ r ≡ eOf day f ⌝ }
 {
-    let days = (day - 41317) as u64;
-    let us = (f + 108000000) as u64;
-    let ms = (whole_ms(f) + 108000) as u64;
-    let sum = 27683252762116830
-        + 273781191135448 * days
-        + 10 * (3125000 * us / 27)
-        + 1368905955 * ms / 432;
-    sum % 100000000000000000
+    let days = (day - FIRST_DAY) as u64;
+    let us = (f + 108_000_000) as u64;
+    let ms = (whole_ms(f) + 108_000) as u64;
+    let sum = AT_START
+        + 273_781_191_135_448 * days
+        + 10 * (3_125_000 * us / 27)
+        + 1_368_905_955 * ms / 432;
+    sum % TURN
 }
