@@ -8,26 +8,25 @@ use Rattle.session.specs.declared.Source.{Source}
 use Rattle.session.specs.declared.Day.{Day}
 use Rattle.session.specs.declared.Pass.{Pass}
 use Rattle.session.specs.declared.Place.{Place}
-use Rattle.session.specs.Records.{checkOf, stationAt, sourceAt, dayAt, passAt}
-use Rattle.session.specs.Fault.{faultOf}
+use Rattle.session.specs.Promises.{CheckPromise, FaultPromise, StationPromise, SourcePromise, DayPromise, PassPromise}
 use Rattle.session.proofs.Answers.{one-value}
 
-module _ (s : List ℕ) where
-  pub check-one : (a b : Counts) → a ≡ checkOf s → b ≡ checkOf s → a ≡ b
-  check-one a b = one-value
+module _ (file : List ℕ) where
+  pub check-one : (r s : Counts) → CheckPromise file r → CheckPromise file s → r ≡ s
+  check-one r s = one-value
 
-  pub fault-one : (a b : Place) → a ≡ faultOf s → b ≡ faultOf s → a ≡ b
-  fault-one a b = one-value
+  pub fault-one : (r s : Place) → FaultPromise file r → FaultPromise file s → r ≡ s
+  fault-one r s = one-value
 
-  module _ (i : ℕ) where
-    pub station-one : (a b : Station) → a ≡ stationAt s i → b ≡ stationAt s i → a ≡ b
-    station-one a b = one-value
+  module _ (index : ℕ) where
+    pub station-one : (r s : Station) → StationPromise file index r → StationPromise file index s → r ≡ s
+    station-one r s = one-value
 
-    pub source-one : (a b : Source) → a ≡ sourceAt s i → b ≡ sourceAt s i → a ≡ b
-    source-one a b = one-value
+    pub source-one : (r s : Source) → SourcePromise file index r → SourcePromise file index s → r ≡ s
+    source-one r s = one-value
 
-    pub day-one : (a b : Day) → a ≡ dayAt s i → b ≡ dayAt s i → a ≡ b
-    day-one a b = one-value
+    pub day-one : (r s : Day) → DayPromise file index r → DayPromise file index s → r ≡ s
+    day-one r s = one-value
 
-    pub pass-one : (a b : Pass) → a ≡ passAt s i → b ≡ passAt s i → a ≡ b
-    pass-one a b = one-value
+    pub pass-one : (r s : Pass) → PassPromise file index r → PassPromise file index s → r ≡ s
+    pass-one r s = one-value

@@ -1,7 +1,5 @@
 // The session file: read, checked, and its records handed out. Document 01, 'Session file'.
-ghost use mathlib.Core.Path.{_≡_};
-ghost use Rattle.session.specs.Records.{checkOf, stationAt, sourceAt, dayAt, passAt};
-ghost use Rattle.session.specs.Fault.{faultOf};
+ghost use Rattle.session.specs.Promises.{CheckPromise, FaultPromise, StationPromise, SourcePromise, DayPromise, PassPromise};
 
 mod faults;
 pub mod records;
@@ -83,7 +81,7 @@ pub struct Place {
 
 // The refusal and zeros, or 0 and the four counts.
 pub fn check(file: &[u8]) -> Counts
-    ensures { λ r. ⌜ r ≡ checkOf (now (file .entry)) ⌝ }
+    ensures { λ r. ⌜ CheckPromise (now (file .entry)) r ⌝ }
 {
     let n = refusal_of(file);
     if n != 0 {
@@ -106,7 +104,7 @@ pub fn check(file: &[u8]) -> Counts
 
 // The station with this index, counted from 0; 5 beyond the last.
 pub fn station_at(file: &[u8], index: usize) -> Station
-    ensures { λ r. ⌜ r ≡ stationAt (now (file .entry)) index ⌝ }
+    ensures { λ r. ⌜ StationPromise (now (file .entry)) index r ⌝ }
 {
     let n = asked(file, 0, index);
     if n == 0 {
@@ -117,7 +115,7 @@ pub fn station_at(file: &[u8], index: usize) -> Station
 
 // The source with this index, counted from 0; 5 beyond the last.
 pub fn source_at(file: &[u8], index: usize) -> Source
-    ensures { λ r. ⌜ r ≡ sourceAt (now (file .entry)) index ⌝ }
+    ensures { λ r. ⌜ SourcePromise (now (file .entry)) index r ⌝ }
 {
     let n = asked(file, 1, index);
     if n == 0 {
@@ -128,7 +126,7 @@ pub fn source_at(file: &[u8], index: usize) -> Source
 
 // The orientation record with this index, counted from 0; 5 beyond the last.
 pub fn day_at(file: &[u8], index: usize) -> Day
-    ensures { λ r. ⌜ r ≡ dayAt (now (file .entry)) index ⌝ }
+    ensures { λ r. ⌜ DayPromise (now (file .entry)) index r ⌝ }
 {
     let n = asked(file, 2, index);
     if n == 0 {
@@ -139,7 +137,7 @@ pub fn day_at(file: &[u8], index: usize) -> Day
 
 // The pass with this index, counted from 0; 5 beyond the last.
 pub fn pass_at(file: &[u8], index: usize) -> Pass
-    ensures { λ r. ⌜ r ≡ passAt (now (file .entry)) index ⌝ }
+    ensures { λ r. ⌜ PassPromise (now (file .entry)) index r ⌝ }
 {
     let n = asked(file, 3, index);
     if n == 0 {
@@ -150,7 +148,7 @@ pub fn pass_at(file: &[u8], index: usize) -> Pass
 
 // Where the number that `check` gives arises first; zeros for a file that is accepted.
 pub fn fault(file: &[u8]) -> Place
-    ensures { λ r. ⌜ r ≡ faultOf (now (file .entry)) ⌝ }
+    ensures { λ r. ⌜ FaultPromise (now (file .entry)) r ⌝ }
 {
     let w = wrong_word(file);
     if w < 14 {

@@ -3,3 +3,4 @@ pub mod Code
 pub mod Writing
 pub mod Handed
 pub mod Round
+pub mod Promises

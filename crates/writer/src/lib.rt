@@ -6,7 +6,8 @@ ghost use lib.ListN.{length};
 ghost use lib.IntN.{pos};
 ghost use Rattle.whole.specs.Answers.{answerBy};
 ghost use Rattle.writer.specs.Bytes.{pasted};
-ghost use Rattle.writer.specs.Writing.{listsRight, fileOf, orElse, writtenAs, roomAs, writtenOf, roomAfter};
+ghost use Rattle.writer.specs.Writing.{listsRight, fileOf, orElse};
+ghost use Rattle.writer.specs.Promises.{WritePromise, WriteAsPromise};
 
 pub mod bytes;
 mod lists;
@@ -84,8 +85,7 @@ pub fn write_as(
     passes: &[i64],
     room: &mut [u8],
 ) -> Number
-    ensures { λ w. ⌜ (w ≡ writtenAs k (now (stations .entry)) (now (sources .entry)) (now (days .entry)) (now (passes .entry)) (length (now (room .entry))))
-        × (now (room .exit) ≡ roomAs k (now (stations .entry)) (now (sources .entry)) (now (days .entry)) (now (passes .entry)) (now (room .entry))) ⌝ }
+    ensures { λ w. ⌜ WriteAsPromise k (now (stations .entry)) (now (sources .entry)) (now (days .entry)) (now (passes .entry)) (now (room .entry)) w (now (room .exit)) ⌝ }
 {
     if !lists_right(k, stations.len(), sources.len(), days.len(), passes.len()) {
         return answer(1, 0);
@@ -111,8 +111,7 @@ pub fn write(
     passes: &[i64],
     room: &mut [u8],
 ) -> Number
-    ensures { λ w. ⌜ (w ≡ writtenOf (now (stations .entry)) (now (sources .entry)) (now (days .entry)) (now (passes .entry)) (now (room .entry)))
-        × (now (room .exit) ≡ roomAfter (now (stations .entry)) (now (sources .entry)) (now (days .entry)) (now (passes .entry)) (now (room .entry))) ⌝ }
+    ensures { λ w. ⌜ WritePromise (now (stations .entry)) (now (sources .entry)) (now (days .entry)) (now (passes .entry)) (now (room .entry)) w (now (room .exit)) ⌝ }
 {
     let k = Kinds {
         first: 1,
