@@ -4,12 +4,11 @@ use Prim.Native.Nat.{ℕ, zero, suc, _*_, _/_, _≤_, _<_}
 use native.Mathlib.Omega.{arith}
 use mathlib.Core.Bool.{true, false}
 use lib.Dec.{leb, eqb}
-use borrow.Author.Tests.{eq-eqb, ne-eqb, eqb-true, le-leb, lt-leb, leb-true, lt-ltb, ltb-true}
-use Rattle.whole.proofs.Products.{below}
+use borrow.Author.Tests.{eq-eqb, ne-eqb, eqb-true, le-leb, lt-leb, lt-ltb, ltb-true}
 use Rattle.sections.specs.Layouts.{layoutIn, standsIn}
 use Rattle.sections.specs.File.{between}
 use Rattle.whole.proofs.Linear.{and-true}
-use Rattle.sections.proofs.Shapes.{stands-some, size-small, most-small}
+use Rattle.sections.proofs.Shapes.{stands-some}
 use Rattle.writer.specs.Writing.{sizeIn, listRight, listsRight}
 use Rattle.writer.specs.declared.Kinds.{Kinds}
 
@@ -44,22 +43,17 @@ pub record List-right (p k n : ℕ) : Type 0 where
   pub size : 0 < sizeIn p k
   pub exact : sizeIn p k * (n / sizeIn p k) ≡ n
   pub counted : between (layoutIn p k .fewest) (layoutIn p k .most) (n / sizeIn p k) ≡ true
-  pub small : n ≤ 2048
 
 pub list-right : (p k n : ℕ) → listRight p k n ≡ true → List-right p k n
 unfolding listRight
 list-right p k n h =
     let a = and-true (standsIn p k) _ h in
     let b = and-true (eqb (sizeIn p k * (n / sizeIn p k)) n) _ (a .1) in
-    let c = and-true (leb (layoutIn p k .fewest) (n / sizeIn p k)) (leb (n / sizeIn p k) (layoutIn p k .most)) (b .1) in
-    let e = eqb-true (sizeIn p k * (n / sizeIn p k)) n (b .0) in
-    let m : n / sizeIn p k ≤ 256 = omega (arith, leb-true (n / sizeIn p k) (layoutIn p k .most) (c .1), most-small p k) in
     record {
       stands = a .0;
       size = ltb-true 0 (sizeIn p k) (sym (stands-some p k) ∙ a .0);
-      exact = e;
+      exact = eqb-true (sizeIn p k * (n / sizeIn p k)) n (b .0);
       counted = b .1;
-      small = omega (arith, e, below 8 256 (size-small p k) m);
     }
 
 pub record Lists-right (k : Kinds) (a b c d : ℕ) : Type 0 where

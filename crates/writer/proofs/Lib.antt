@@ -3,6 +3,7 @@ pub mod Eight
 pub mod All
 pub mod Paste
 pub mod Counts
+pub mod Longest
 pub mod Outcomes
 pub mod Tables
 pub mod Sections

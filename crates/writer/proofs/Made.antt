@@ -18,7 +18,7 @@ use Rattle.whole.proofs.Linear.{and-true}
 use Rattle.whole.proofs.Tests.{and-yes}
 use Rattle.writer.specs.Bytes.{wordsOf}
 use Rattle.writer.specs.Writing.{sizeIn, listsRight, contentsFor, fileWords, fileOf, kinds, orElse, writeRefusal}
-use Rattle.writer.proofs.All.{all-long}
+use Rattle.writer.proofs.Longest.{made-long, made-short}
 use Rattle.writer.proofs.Counts.{List-right, lists-right}
 use Rattle.writer.proofs.Back.{contents-word}
 
@@ -50,30 +50,12 @@ module _ (s : List ℕ) (L : 104 ≤ length s) where
     body-made = ap (λ (m : ℕ). startOf s p + 8 * m) (ap₂ (λ (x y : ℕ). length (layoutIn p x .fields) * y) a c ∙ w .exact)
 
 module _ (p q r t : List ℤ) (g : listsRight kinds (length p) (length q) (length r) (length t) ≡ true) where
-  words-long : length (fileWords kinds p q r t) ≡ 13 + length p + length q + length r + length t
-  unfolding fileWords contentsFor
-  words-long =
-      omega (arith, length-map p (ofZ w64), length-map q (ofZ w64), length-map r (ofZ w64), length-map t (ofZ w64), length-append (wordsOf r) (wordsOf t), length-append (wordsOf q) (wordsOf r ++ wordsOf t), length-append (wordsOf p) (wordsOf q ++ (wordsOf r ++ wordsOf t)))
-
-  long : length (fileOf kinds p q r t) ≡ 104 + 8 * length p + 8 * length q + 8 * length r + 8 * length t
-  unfolding fileOf
-  long = omega (arith, all-long (fileWords kinds p q r t), words-long)
-
-  small : (length p ≤ 256) × (length q ≤ 768) × (length r ≤ 320) × (length t ≤ 512)
-  unfolding layoutIn places station source orientation pass
-  small =
-      let w = lists-right _ _ _ _ _ g in (
-        omega (arith, leb-true (length p / 4) 64 (and-true (leb 1 (length p / 4)) _ (w .one .counted) .1), w .one .exact),
-        omega (arith, leb-true (length q / 3) 256 (and-true (leb 1 (length q / 3)) _ (w .two .counted) .1), w .two .exact),
-        omega (arith, leb-true (length r / 5) 64 (and-true (leb 2 (length r / 5)) _ (w .three .counted) .1), w .three .exact),
-        omega (arith, leb-true (length t / 8) 64 (and-true (leb 1 (length t / 8)) _ (w .four .counted) .1), w .four .exact),
-      )
-
   pub file-contents : contentsRight (fileOf kinds p q r t) ≡ true
   unfolding contentsRight sectionsRight lengthRight startOf contentsFor
   file-contents =
       let s = fileOf kinds p q r t in
       let w = lists-right _ _ _ _ _ g in
+      let long = made-long kinds p q r t in
       let L : 104 ≤ length s = omega (arith, long) in
       let v : (j : ℕ) → j < 13 → word s j ≡ getD (contentsFor kinds (length p) (length q) (length r) (length t)) j 0 = contents-word p q r t g in
       let b1 = body-made s L 0 1 104 (length p) (omega arith) (w .one) (v 1 (omega arith)) (v 2 (omega arith)) (v 3 (omega arith)) in
@@ -99,7 +81,7 @@ module _ (p q r t : List ℤ) (g : listsRight kinds (length p) (length q) (lengt
       (offset-made s L 1 2 (104 + 8 * length p) (length q) (omega arith) (w .two) (v 4 (omega arith)) (v 5 (omega arith)) (v 6 (omega arith)) (omega (arith, b1)))
       (offset-made s L 2 3 (104 + 8 * length p + 8 * length q) (length r) (omega arith) (w .three) (v 7 (omega arith)) (v 8 (omega arith)) (v 9 (omega arith)) (omega (arith, b1, b2)))
       (offset-made s L 3 4 (104 + 8 * length p + 8 * length q + 8 * length r) (length t) (omega arith) (w .four) (v 10 (omega arith)) (v 11 (omega arith)) (v 12 (omega arith)) (omega (arith, b1, b2, b3))))
-      (and-yes (le-leb (length s) 65536 (omega (arith, long, small))) (eq-eqb (length s) (startOf s 4) (omega (arith, long, b1, b2, b3, b4)))))))
+      (and-yes (le-leb (length s) 65536 (omega (arith, made-short kinds p q r t g))) (eq-eqb (length s) (startOf s 4) (omega (arith, long, b1, b2, b3, b4)))))))
 
 -- so that 1 is given exactly where the lists are no right counts of whole records
 one-or : (a b : Bool) (n m : ℕ) → (n ≡ 1 → ⊥) → cond a (orElse n (cond b 0 7)) 1 ≡ m → m ≡ 1 → a ≡ false

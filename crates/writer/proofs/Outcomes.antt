@@ -10,11 +10,12 @@ use lib.IntN.{ℤ, pos}
 use lib.Dec.{leb}
 use borrow.Author.Tests.{le-leb, lt-leb, leb-true, ne-eqb}
 use Rattle.sections.specs.File.{refusalOf}
-use Rattle.whole.specs.Answers.{answerBy}
-use Rattle.whole.proofs.Answers.{answer-no}
+use Rattle.whole.specs.Answers.{number, noNumber, answerBy}
+use Rattle.whole.proofs.Answers.{answer-no, answer-yes}
 use Rattle.writer.specs.declared.Kinds.{Kinds}
 use Rattle.writer.specs.Bytes.{pasted}
 use Rattle.writer.specs.Writing.{listsRight, fileOf, orElse, writeRefusal, writtenAs, roomAs}
+use Rattle.writer.specs.Promises.{WriteAsPromise}
 
 -- what is written from the start on stands there
 pub front : (d e bs : List ℕ) (n : ℕ) → e ≡ pasted d 0 bs → n ≡ length bs → take n e ≡ bs
@@ -23,17 +24,13 @@ front d e bs n h k = rw h (take-at bs (drop (0 + length bs) d) n (sym k))
 
 -- ---- the number
 
-pub or-first : (x y : ℕ) → (x ≡ 0 → ⊥) → orElse x y ≡ x
+or-first : (x y : ℕ) → (x ≡ 0 → ⊥) → orElse x y ≡ x
 or-first zero y h = absurd (h refl)
 or-first (suc x) y h = refl
 
 or-none : (x : ℕ) → orElse x 0 ≡ x
 or-none zero = refl
 or-none (suc x) = refl
-
-pub or-seven : (x : ℕ) → orElse x 7 ≡ 0 → ⊥
-or-seven zero h = omega arith
-or-seven (suc x) h = omega arith
 
 module _ (k : Kinds) (p q r t : List ℤ) (room : List ℕ) where
   -- the answer is that of the number, and by the number the room stays or holds the file
@@ -49,12 +46,14 @@ module _ (k : Kinds) (p q r t : List ℤ) (room : List ℕ) where
   unfolding roomAs
   room-written h = rw h
 
-  -- refused with n, whatever the count of bytes
-  pub refused : (n m : ℕ) → writeRefusal k p q r t (length room) ≡ n → (n ≡ 0 → ⊥)
-      → (answerBy n (pos m) ≡ writtenAs k p q r t (length room)) × (room ≡ roomAs k p q r t room)
-  refused n m e h =
+  -- refused with n, and not refused
+  pub refused : (n : ℕ) → writeRefusal k p q r t (length room) ≡ n → (n ≡ 0 → ⊥) → WriteAsPromise k p q r t room (noNumber n) room
+  refused n e h =
       let f : (writeRefusal k p q r t (length room) ≡ 0 → ⊥) = λ z. h (sym e ∙ z) in
-      (answer-no n (pos m) h ∙ sym (answered ∙ ap (λ (i : ℕ). answerBy i (pos (length (fileOf k p q r t)))) e ∙ answer-no n _ h), sym (room-stays f))
+      (sym (answered ∙ answer-no _ _ f ∙ ap noNumber e), sym (room-stays f))
+
+  pub stored : writeRefusal k p q r t (length room) ≡ 0 → WriteAsPromise k p q r t room (number (pos (length (fileOf k p q r t)))) (pasted room 0 (fileOf k p q r t))
+  stored e = (sym (answered ∙ answer-yes _ _ e), sym (room-written e))
 
   -- the number, by the lists, the reader's number of the file, and the room
   pub by-lists : listsRight k (length p) (length q) (length r) (length t) ≡ false → writeRefusal k p q r t (length room) ≡ 1
@@ -62,6 +61,10 @@ module _ (k : Kinds) (p q r t : List ℤ) (room : List ℕ) where
   by-lists h = rw h
 
   module _ (s : listsRight k (length p) (length q) (length r) (length t) ≡ true) where
+    pub by-reader : (refusalOf (fileOf k p q r t) ≡ 0 → ⊥) → writeRefusal k p q r t (length room) ≡ refusalOf (fileOf k p q r t)
+    unfolding writeRefusal
+    by-reader h = rw (s, or-first (refusalOf (fileOf k p q r t)) _ h)
+
     pub by-short : length room < length (fileOf k p q r t) → writeRefusal k p q r t (length room) ≡ orElse (refusalOf (fileOf k p q r t)) 7
     unfolding writeRefusal
     by-short h = rw (s, lt-leb _ _ h)

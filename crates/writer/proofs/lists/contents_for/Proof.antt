@@ -3,6 +3,7 @@ use mathlib.Core.List.{[], _∷_}
 use Prim.Native.Nat.{_+_, _*_}
 use Rattle.writer.specs.Writing.{contentsFor}
 use Rattle.writer.proofs.Counts.{lists-right}
+use Rattle.writer.proofs.Longest.{lists-short}
 use Rattle.writer.proofs.lists.contents_for.Statement.{statement}
 use Rattle.writer.proofs.lists.contents_for.Tie as tie
 
@@ -19,22 +20,22 @@ count-in-requires-4 : tie.Need-count-in-requires-4
 count-in-requires-4 c κs = (omega arith, lists-right _ _ _ _ _ (c .before .before .before .pre) .four .size)
 
 mul-s2 : tie.Need-mul-s2
-mul-s2 c = let w = lists-right _ _ _ _ _ (c .before .before .before .before .pre) in omega (arith, w .one .small, w .two .small, w .three .small)
+mul-s2 c = omega (arith, lists-short _ _ _ _ _ (c .before .before .before .before .pre))
 
 add-s2 : tie.Need-add-s2
-add-s2 c = let w = lists-right _ _ _ _ _ (c .before .before .before .before .pre) in omega (arith, w .one .small, w .two .small, w .three .small)
+add-s2 c = omega (arith, lists-short _ _ _ _ _ (c .before .before .before .before .pre))
 
 mul-s3 : tie.Need-mul-s3
-mul-s3 c = let w = lists-right _ _ _ _ _ (c .before .before .before .before .pre) in omega (arith, w .one .small, w .two .small, w .three .small)
+mul-s3 c = omega (arith, lists-short _ _ _ _ _ (c .before .before .before .before .pre))
 
 add-s3 : tie.Need-add-s3
-add-s3 c = let w = lists-right _ _ _ _ _ (c .before .before .before .before .pre) in omega (arith, w .one .small, w .two .small, w .three .small)
+add-s3 c = omega (arith, lists-short _ _ _ _ _ (c .before .before .before .before .pre))
 
 mul-s4 : tie.Need-mul-s4
-mul-s4 c = let w = lists-right _ _ _ _ _ (c .before .before .before .before .pre) in omega (arith, w .one .small, w .two .small, w .three .small)
+mul-s4 c = omega (arith, lists-short _ _ _ _ _ (c .before .before .before .before .pre))
 
 add-s4 : tie.Need-add-s4
-add-s4 c = let w = lists-right _ _ _ _ _ (c .before .before .before .before .pre) in omega (arith, w .one .small, w .two .small, w .three .small)
+add-s4 c = omega (arith, lists-short _ _ _ _ _ (c .before .before .before .before .pre))
 
 returns : tie.Need-returns
 unfolding contentsFor
