@@ -23,7 +23,8 @@ use Rattle.wave.specs.Delays.{delayBetween}
 use Rattle.wave.proofs.Swapped.{between-neg, between-same}
 use Rattle.delay.specs.declared.EarthAnswer.{EarthAnswer}
 use Rattle.whole.specs.Answers.{answerBy}
-use Rattle.delay.specs.Calls.{lowest, unless, idOk, allThere, delayIn, delayNumber, delayOutcome, orientationOutcome, samplesOf, allCovered, sampleIn, samplesNumber, samplesOutcome, samplesRoom}
+use Rattle.delay.specs.Calls.{lowest, unless, idOk, allThere, delayIn, delayNumber, delayOutcome, samplesOf, allCovered, sampleIn, samplesNumber, samplesRoom}
+use Rattle.delay.specs.Promises.{OrientationPromise, DelayPromise, SamplesPromise}
 use Rattle.delay.specs.Sessions.{hasId, covers, earthIn, sampleEpoch}
 use Rattle.delay.proofs.Accepted.{names-in}
 use Rattle.delay.proofs.Covered.{earth-in-size}
@@ -33,14 +34,14 @@ use Rattle.delay.proofs.Ranges.{asked-in}
 use Rattle.delay.proofs.Written.{sample-at}
 
 -- ---- one value: any two results that a promise allows are equal
-pub orientation-one : (s : List ℕ) (day ms : ℤ) (a b : EarthAnswer) → a ≡ orientationOutcome s day ms → b ≡ orientationOutcome s day ms → a ≡ b
+pub orientation-one : (s : List ℕ) (day ms : ℤ) (a b : EarthAnswer) → OrientationPromise s day ms a → OrientationPromise s day ms b → a ≡ b
 orientation-one s day ms a b p q = p ∙ sym q
 
-pub delay-one : (s : List ℕ) (i j r day ms : ℤ) (a b : Number) → a ≡ delayOutcome s i j r day ms → b ≡ delayOutcome s i j r day ms → a ≡ b
+pub delay-one : (s : List ℕ) (i j r day ms : ℤ) (a b : Number) → DelayPromise s i j r day ms a → DelayPromise s i j r day ms b → a ≡ b
 delay-one s i j r day ms a b p q = p ∙ sym q
 
-pub samples-one : (s : List ℕ) (i : ℕ) (room : List ℤ) (a b : Number) (x y : List ℤ) → a ≡ samplesOutcome s i (length room) → x ≡ samplesRoom s i room → b ≡ samplesOutcome s i (length room) → y ≡ samplesRoom s i room → (a ≡ b) × (x ≡ y)
-samples-one s i room a b x y p q u v = (p ∙ sym u, q ∙ sym v)
+pub samples-one : (s : List ℕ) (i : ℕ) (room : List ℤ) (a b : Number) (x y : List ℤ) → SamplesPromise s i room a x → SamplesPromise s i room b y → (a ≡ b) × (x ≡ y)
+samples-one s i room a b x y p q = (p .0 ∙ sym (q .0), p .1 ∙ sym (q .1))
 
 -- ---- exchanging the stations
 and-swap : (a b c : Bool) → (a && (b && c)) ≡ (b && (a && c))

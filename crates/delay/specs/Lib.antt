@@ -1,4 +1,5 @@
 pub mod Bounds
 pub mod Calls
 pub mod Keeping
+pub mod Promises
 pub mod Sessions

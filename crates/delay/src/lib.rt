@@ -20,10 +20,10 @@ use whole::sign::in_range;
 ghost use mathlib.Core.Path.{_≡_};
 ghost use mathlib.Core.Bool.{_&&_};
 ghost use Prim.Native.Nat.{_≤_, _<_};
-ghost use lib.ListN.{length};
 ghost use Rattle.whole.specs.Answers.{noNumber};
 ghost use Rattle.earth.specs.Ranges.{dayOk, msOk};
-ghost use Rattle.delay.specs.Calls.{lowerOf, unless, idOk, noEarth, orientationOutcome, delayOutcome, samplesOutcome, samplesRoom};
+ghost use Rattle.delay.specs.Calls.{lowerOf, unless, idOk, noEarth};
+ghost use Rattle.delay.specs.Promises.{OrientationPromise, DelayPromise, SamplesPromise};
 
 // As used at an epoch: the pole, UT1-UTC with the tide, and ERA.
 #[repr(C)]
@@ -86,7 +86,7 @@ fn id_ok(id: i64) -> bool
 
 // The pole, UT1-UTC with the tide, and ERA, as used at an epoch.
 pub fn orientation(file: &[u8], day: i64, ms: i64) -> EarthAnswer
-    ensures { λ r. ⌜ r ≡ orientationOutcome (now (file .entry)) day ms ⌝ }
+    ensures { λ r. ⌜ OrientationPromise (now (file .entry)) day ms r ⌝ }
 {
     let n = judged(refusal_of(file), epoch_ok(day, ms));
     if n != 0 {
@@ -114,7 +114,7 @@ fn asked_ok(station1: i64, station2: i64, source: i64, day: i64, ms: i64) -> boo
 
 // The delay in picoseconds, at an epoch, of the stations and the source that the ids name.
 pub fn delay(file: &[u8], station1: i64, station2: i64, source: i64, day: i64, ms: i64) -> Number
-    ensures { λ r. ⌜ r ≡ delayOutcome (now (file .entry)) station1 station2 source day ms ⌝ }
+    ensures { λ r. ⌜ DelayPromise (now (file .entry)) station1 station2 source day ms r ⌝ }
 {
     let n = judged(
         refusal_of(file),
@@ -143,7 +143,7 @@ pub fn delay(file: &[u8], station1: i64, station2: i64, source: i64, day: i64, m
 
 // The samples of a pass, written from the start of the room.
 pub fn samples(file: &[u8], pass: usize, room: &mut [i64]) -> Number
-    ensures { λ r. ⌜ (r ≡ samplesOutcome (now (file .entry)) pass (length (now (room .entry)))) × (now (room .exit) ≡ samplesRoom (now (file .entry)) pass (now (room .entry))) ⌝ }
+    ensures { λ r. ⌜ SamplesPromise (now (file .entry)) pass (now (room .entry)) r (now (room .exit)) ⌝ }
 {
     let n = refusal_of(file);
     if n != 0 {
