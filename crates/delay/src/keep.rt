@@ -36,12 +36,12 @@ pub fn kept_from(s: &[u8], day: i64) -> Kept
     requires { ⌜ (refusalOf (now s) ≡ 0) × (∣ day ∣ ≤ 1000000) ⌝ }
     ensures { λ r. ⌜ TrueKept (now (s .entry)) r ⌝ }
 {
-    let days = days_from(s, day);
-    let tide = tide_at_minute(0);
-    let minute = Minute { n: 0, tide: tide };
     Kept {
-        days: days,
-        minute: minute,
+        days: days_from(s, day),
+        minute: Minute {
+            n: 0,
+            tide: tide_at_minute(0),
+        },
     }
 }
 
@@ -62,20 +62,14 @@ pub fn sample_at(s: &[u8], kept: Kept, v: Sight, e: Epoch) -> Sampled
     requires { ⌜ (covers (now s) (e .day) ≡ true) × InMs (e .ms) ⌝ }
     ensures { λ r. ⌜ (r .delay ≡ delayAt (now (s .entry)) v e) × TrueKept (now (s .entry)) (r .kept) ⌝ }
 {
-    let known = kept.days;
-    let was = kept.minute;
-    let days = days_at(s, known, e.day);
-    let today = days.today;
-    let next = days.next;
-    let minute = minute_at(was, minutes_by(today, e));
-    let earth = earth_at(today, next, e, minute.tide);
-    let delay = delay_seen(v, earth);
-    let k = Kept {
-        days: days,
-        minute: minute,
-    };
+    let days = days_at(s, kept.days, e.day);
+    let minute = minute_at(kept.minute, minutes_by(days.today, e));
+    let earth = earth_at(days.today, days.next, e, minute.tide);
     Sampled {
-        delay: delay,
-        kept: k,
+        delay: delay_seen(v, earth),
+        kept: Kept {
+            days: days,
+            minute: minute,
+        },
     }
 }

@@ -131,13 +131,9 @@ pub fn delay(file: &[u8], station1: i64, station2: i64, source: i64, day: i64, m
         return no_number(6);
     }
     let e = earth_in(file, Epoch { day: day, ms: ms });
-    let a = names.first;
-    let b = names.second;
-    let r = names.source;
-    let value = delay_between(a, b, r, e);
     Number {
         refusal: 0,
-        value: value,
+        value: delay_between(names.first, names.second, names.source, e),
     }
 }
 
@@ -154,22 +150,17 @@ pub fn samples(file: &[u8], pass: usize, room: &mut [i64]) -> Number
     }
     let p = pass_of(file, pass);
     let names = named_by(file, p.station1, p.station2, p.source);
-    let found = names.found;
-    if !found {
+    if !names.found {
         return no_number(5);
     }
-    let covered = all_covered(file, p);
-    if !covered {
+    if !all_covered(file, p) {
         return no_number(6);
     }
-    let last = p.samples as usize - 1;
-    if room.len() <= last {
+    if room.len() < p.samples as usize {
         return no_number(7);
     }
-    let a = names.first;
-    let b = names.second;
-    let r = names.source;
-    write_samples(file, p, sight_of(a, b, r), room);
+    let sight = sight_of(names.first, names.second, names.source);
+    write_samples(file, p, sight, room);
     Number {
         refusal: 0,
         value: p.samples,

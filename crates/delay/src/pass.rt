@@ -27,8 +27,7 @@ fn sample_epoch(p: Pass, i: usize) -> Epoch
         day: p.mjd,
         ms: p.ms,
     };
-    let n = i as i64;
-    start.later(n * p.step)
+    start.later(i as i64 * p.step)
 }
 
 // Whether the file covers every sample's epoch. Its days follow one another, so that the first sample and the last tell.
@@ -55,8 +54,7 @@ pub fn write_samples(s: &[u8], p: Pass, v: Sight, room: &mut [i64])
         let r = sample_at(s, kept, v, e);
         let delay = r.delay;
         room[i] = delay;
-        let k = r.kept;
-        kept = k;
+        kept = r.kept;
         i += 1;
     }
 }

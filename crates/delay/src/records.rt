@@ -71,12 +71,10 @@ pub fn days_from(s: &[u8], day: i64) -> Days
     requires { ⌜ (refusalOf (now s) ≡ 0) × (∣ day ∣ ≤ 1000000) ⌝ }
     ensures { λ r. ⌜ r ≡ daysFrom (now (s .entry)) day ⌝ }
 {
-    let today = day_by(s, day);
-    let next = day_by(s, day + 1);
     Days {
         day: day,
-        today: today,
-        next: next,
+        today: day_by(s, day),
+        next: day_by(s, day + 1),
     }
 }
 
@@ -86,9 +84,7 @@ pub fn covers(s: &[u8], day: i64) -> bool
     ensures { λ r. ⌜ r ≡ covers (now (s .entry)) day ⌝ }
 {
     let d = days_from(s, day);
-    let today = d.today;
-    let next = d.next;
-    there(today.refusal) && there(next.refusal)
+    there(d.today.refusal) && there(d.next.refusal)
 }
 
 // The earth at an epoch that the file covers.
@@ -97,8 +93,6 @@ pub fn earth_in(s: &[u8], e: Epoch) -> Earth
     ensures { λ r. ⌜ (r ≡ earthIn (now (s .entry)) e) × InEarth r ⌝ }
 {
     let d = days_from(s, e.day);
-    let today = d.today;
-    let next = d.next;
-    let tide = tide_at_minute(minutes_by(today, e));
-    earth_at(today, next, e, tide)
+    let tide = tide_at_minute(minutes_by(d.today, e));
+    earth_at(d.today, d.next, e, tide)
 }

@@ -70,13 +70,6 @@ ut1-goes-on r0 r1 =
     (⟨ v1 ⟩ ⊝ ⟨ l1 ⟩ ⊗ # 1000000000)
     (omega arith)
 
--- the tide added at both ends is added to the line
-pub ends-moved : (v0 v1 u t : ℤ) → line (v0 +ℤ t) (v1 +ℤ t) u ≡ line v0 v1 u +ℤ t
-ends-moved v0 v1 u t =
-    let d : v1 +ℤ t -ℤ (v0 +ℤ t) ≡ v1 -ℤ v0 = by≡ (⟨ v1 ⟩ ⊕ ⟨ t ⟩ ⊝ (⟨ v0 ⟩ ⊕ ⟨ t ⟩)) (⟨ v1 ⟩ ⊝ ⟨ v0 ⟩) (omega arith) in
-    let q = R ((v1 -ℤ v0) *ℤ u) 86400000 in
-    ap (λ (z : ℤ). v0 +ℤ t +ℤ R (z *ℤ u) 86400000) d ∙ by≡ (⟨ v0 ⟩ ⊕ ⟨ t ⟩ ⊕ ⟨ q ⟩) (⟨ v0 ⟩ ⊕ ⟨ q ⟩ ⊕ ⟨ t ⟩) (omega arith)
-
 -- the line's size: UT1R and the leap
 pub ut1-line-size : (r0 r1 : Day) (u : ℤ) → InRecord r0 → InRecord r1 → InMs u → ∣ ut1Line r0 r1 u ∣ ≤ 99902723000
 unfolding ut1Line

@@ -40,14 +40,11 @@ pub fn sight_of(a: Station, b: Station, r: Source) -> Sight
     requires { ⌜ InStation a × InStation b × InSource r ⌝ }
     ensures { λ v. ⌜ (v ≡ sightOf a b r) × InSight v ⌝ }
 {
-    let baseline = between(a, b);
-    let right_ascension = tick(r.right_ascension);
-    let declination = turn_by(tick(r.declination));
     Sight {
-        baseline: baseline,
+        baseline: between(a, b),
         source: r,
-        right_ascension: right_ascension,
-        declination: declination,
+        right_ascension: tick(r.right_ascension),
+        declination: turn_by(tick(r.declination)),
     }
 }
 
@@ -63,11 +60,8 @@ pub fn delay_seen(v: Sight, e: Earth) -> i64
     requires { ⌜ InSight v × InEarth e ⌝ }
     ensures { λ r. ⌜ r ≡ delaySeen v e ⌝ }
 {
-    let b = v.baseline;
-    let r = v.source;
-    let d = v.declination;
-    let h = std::num::wrapping_sub_u32(angle_for(r, e), v.right_ascension);
-    delay_at(b, e.x, e.y, h, d)
+    let h = std::num::wrapping_sub_u32(angle_for(v.source, e), v.right_ascension);
+    delay_at(v.baseline, e.x, e.y, h, v.declination)
 }
 
 // The delay in picoseconds of two stations' records and a source's record, with the earth as it is at an epoch.

@@ -63,9 +63,10 @@ pub fn tick(a: i64) -> u32
 pub fn turn_by(t: u32) -> Turn
     ensures { λ r. ⌜ (r ≡ turnOf t) × Turned r ⌝ }
 {
-    let c = cosine(t);
-    let s = sine(t);
-    Turn { cos: c, sin: s }
+    Turn {
+        cos: cosine(t),
+        sin: sine(t),
+    }
 }
 
 // The delay, in picoseconds, of a shifted baseline at hour angle h, along a declination of which d is the cosine and the sine.

@@ -3,7 +3,6 @@ use earth::Epoch;
 use earth::rows::tide_at_minute;
 use earth::turn::turn_of;
 use session::Day;
-use whole::divide::floor_div;
 use whole::divide::line_at;
 use whole::long::rotation_ticks;
 ghost use mathlib.Core.Path.{_≡_};
@@ -40,8 +39,10 @@ pub fn minute_at(kept: Minute, n: i64) -> Minute
     if kept.n == n {
         return kept;
     }
-    let tide = tide_at_minute(n);
-    Minute { n: n, tide: tide }
+    Minute {
+        n: n,
+        tide: tide_at_minute(n),
+    }
 }
 
 // The minute of TT of an epoch, by the TAI-UTC of its day's record.
@@ -52,12 +53,11 @@ pub fn minutes_by(r0: Day, e: Epoch) -> i64
     e.minutes(r0.tai_utc)
 }
 
-// The UT1-UTC of a record with the tide of an epoch: what it gives is UT1R.
-fn with_tide(r: Day, tide: i64) -> i64
-    requires { ⌜ InRecord r × (∣ tide ∣ ≤ 2723000) ⌝ }
-    ensures { λ v. ⌜ (v ≡ ut1rOf r +ℤ tide) × (∣ v ∣ ≤ 905446000) ⌝ }
+// The UT1R that a record gives.
+fn ut1r(r: Day) -> i64
+    ensures { λ v. ⌜ v ≡ ut1rOf r ⌝ }
 {
-    r.ut1_utc + tide
+    r.ut1_utc
 }
 
 // What UT1-UTC steps by from one record to the next because TAI-UTC does, in nanoseconds.
@@ -68,22 +68,22 @@ fn leap(r0: Day, r1: Day) -> i64
     (r1.tai_utc - r0.tai_utc) * 1000000000
 }
 
-// UT1-UTC used: the line from one day's record to the next, with the tide at both its ends and without the leap between them.
+// UT1-UTC used: the line from one day's record to the next, without the leap between them, and the tide.
 fn ut1_used(r0: Day, r1: Day, ms: i64, tide: i64) -> i64
     requires { ⌜ InRecord r0 × InRecord r1 × InMs ms × (∣ tide ∣ ≤ 2723000) ⌝ }
     ensures { λ r. ⌜ r ≡ ut1Line r0 r1 ms +ℤ tide ⌝ }
 {
-    let v0 = with_tide(r0, tide);
-    let v1 = with_tide(r1, tide) - leap(r0, r1);
-    line_at(v0, v1, ms)
+    let v0 = ut1r(r0);
+    let v1 = ut1r(r1) - leap(r0, r1);
+    line_at(v0, v1, ms) + tide
 }
 
-// ERA, where this UT1-UTC is used.
+// ERA, where this UT1-UTC is used. The bias in f keeps the dividend from going below 0, where a quotient is no floor.
 fn era_at(day: i64, ms: i64, ut1: i64) -> u32
     requires { ⌜ InDay day × InMs ms × (∣ ut1 ∣ ≤ 99905446000) ⌝ }
     ensures { λ r. ⌜ r ≡ eraOf day (fOf ms ut1) ⌝ }
 {
-    let f = 1000 * ms + floor_div(ut1, 1000);
+    let f = 1000 * ms + (ut1 + 100000000000) / 1000 - 100000000;
     let e = turn_of(day, f);
     rotation_ticks(e)
 }

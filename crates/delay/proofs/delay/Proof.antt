@@ -204,14 +204,13 @@ module _ (c : tie.After-earth-in) where
 
 delay-between-requires : tie.Need-delay-between-requires
 delay-between-requires c κs =
-    let v = c .before .before .before in
-    let n = in-names v in
-    (n .0, n .1, n .2, v .earth-in .ensures .1)
+    let n = in-names c in
+    (n .0, n .1, n .2, c .earth-in .ensures .1)
 
 -- the delay that was worked out
 module _ (c : tie.After-delay-between) where
   abbrev v : tie.After-earth-in
-  v = c .before .before .before .before
+  v = c .before
 
   abbrev u : tie.After-judged
   u = q (p v)

@@ -5,7 +5,7 @@ use mathlib.Core.List.{List, _++_}
 use Prim.Native.Nat.{ℕ, _≤_, _<_}
 use native.Mathlib.Omega.{arith}
 use borrow.Author.Needs.{needs}
-use borrow.Author.Tests.{ne-eqb, lt-ltb, le-ltb, le-leb, lt-leb, not-false}
+use borrow.Author.Tests.{ne-eqb, lt-ltb, le-ltb, le-leb, lt-leb}
 use lib.Dec.{leb, ltb}
 use lib.ListN.{length, drop}
 use lib.IntN.{ℤ, natAbs}
@@ -29,7 +29,7 @@ use Rattle.delay.specs.Calls.{allThere, allCovered, samplesOf, delayIn, 
 use Rattle.delay.specs.Keeping.{namedBy, delayAt}
 use Rattle.delay.specs.Sessions.{earthIn, sampleEpoch}
 use Rattle.delay.proofs.Accepted.{pass-in, names-in}
-use Rattle.delay.proofs.Epochs.{samples-count, samples-back, samples-read, samples-cast}
+use Rattle.delay.proofs.Epochs.{samples-back, samples-read, samples-cast}
 use Rattle.delay.proofs.Lowest.{file-first, index-first, pass-names-first, days-first}
 use Rattle.delay.proofs.Written.{room-length}
 use Rattle.delay.proofs.samples.Statement.{statement}
@@ -170,7 +170,7 @@ module _ (c : tie.After-named-by) where
 returns-3 : tie.Need-returns-3
 unfolding samplesNumber
 returns-3 c =
-    let o = c .before .before in
+    let o = c .before .before .before in
     let j = q o in
     let f = file (k j) in
     let h = failed (found-is o) (c .before .if3 .taken) in
@@ -179,7 +179,7 @@ returns-3 c =
 
 module _ (c : tie.Else3) where
   abbrev o3 : tie.After-named-by
-  o3 = c .before
+  o3 = c .before .before
 
   there : allThere (file (k (q o3))) (pass (q o3) .station1) (pass (q o3) .station2) (pass (q o3) .source) ≡ true
   there = passed (found-is o3) (c .if3 .left)
@@ -211,16 +211,13 @@ module _ (c : tie.Else4) where
   taken = got (t (o3 e3)) .pass-of .result
 
   days-there : allCovered (file (k q4)) (pass q4) ≡ true
-  days-there = not-false _ (simp (covered-is a4, found-is (o3 e3)) at (c .if4 .left))
+  days-there = passed (covered-is a4) (c .if4 .left)
 
   taken-in : InPass taken
   taken-in = rw (pass-is e3) (in-pass q4)
 
   count-is : natAbs (toZ w64 (ofZ w64 (taken .samples))) ≡ samplesOf (pass q4)
   count-is = samples-read taken taken-in ∙ ap samplesOf (pass-is e3)
-
-  some : 1 ≤ samplesOf (pass q4)
-  some = samples-count (pass q4) (in-pass q4) .0
 
 returns-4 : tie.Need-returns-4
 unfolding samplesNumber
@@ -232,11 +229,8 @@ returns-4 c =
     let n : samplesNumber f (i (k j)) (length (room (k j))) ≡ 6 = rw (accepted (e1 j), index-ok j, there (a .before), h) (days-first (leb (samplesOf (pass j)) (length (room (k j))))) in
     (c .no-number4 .ensures ∙ refused f (i (k j)) (room (k j)) 6 n (λ z. omega arith), stays f (i (k j)) (room (k j)) 6 n (λ z. omega arith))
 
-cast-last : tie.Need-cast-last
-cast-last c = let e = c .before .before in samples-cast (taken e) (taken-in e)
-
-sub-last : tie.Need-sub-last
-sub-last c = let e = c .before .before in rw (count-is e) (some e)
+cast-if5 : tie.Need-cast-if5
+cast-if5 c = let e = c .before .before in samples-cast (taken e) (taken-in e)
 
 no-number-requires-5 : tie.Need-no-number-requires-5
 no-number-requires-5 c κs = search needs
@@ -247,8 +241,7 @@ returns-5 c =
     let o = c .before .before .before .before in
     let j = q4 o in
     let f = file (k j) in
-    let l = rw (count-is o) at (c .before .if5 .taken) in
-    let h : leb (samplesOf (pass j)) (length (room (k j))) ≡ false = lt-leb (samplesOf (pass j)) (length (room (k j))) (omega (arith, some o, l)) in
+    let h : leb (samplesOf (pass j)) (length (room (k j))) ≡ false = lt-leb (samplesOf (pass j)) (length (room (k j))) (rw (count-is o) at (c .before .if5 .taken)) in
     let n : samplesNumber f (i (k j)) (length (room (k j))) ≡ 7 = rw (accepted (e1 j), index-ok j, there (e3 o), days-there o, h) refl in
     (c .no-number5 .ensures ∙ refused f (i (k j)) (room (k j)) 7 n (λ z. omega arith), stays f (i (k j)) (room (k j)) 7 n (λ z. omega arith))
 
@@ -260,7 +253,7 @@ module _ (c : tie.Else5) where
   j5 = q4 o5
 
   enough : samplesOf (pass j5) ≤ length (room (k j5))
-  enough = let l = rw (count-is o5) at (c .if5 .left) in omega (arith, some o5, l)
+  enough = rw (count-is o5) at (c .if5 .left)
 
   zero-number : samplesNumber (file (k j5)) (i (k j5)) (length (room (k j5))) ≡ 0
   unfolding samplesNumber
@@ -271,16 +264,15 @@ module _ (c : tie.Else5) where
 
 sight-of-requires : tie.Need-sight-of-requires
 sight-of-requires c κs =
-    let e = c .before .before .before in
-    let o = o3 (e3 (o5 e)) in
+    let o = o3 (e3 (o5 c)) in
     let p = pass (q o) in
     subst (λ (n : Named). InStation (n .first) × InStation (n .second) × InSource (n .source)) (sym (names-are o))
-    (names-in (file (k (q o))) (accepted (e1 (q o))) (p .station1) (p .station2) (p .source) (there (e3 (o5 e))))
+    (names-in (file (k (q o))) (accepted (e1 (q o))) (p .station1) (p .station2) (p .source) (there (e3 (o5 c))))
 
 write-samples-requires : tie.Need-write-samples-requires
 write-samples-requires c κs =
     let v = c .before in
-    let e = v .before .before .before .before in
+    let e = v .before in
     let o = o5 e in (
       (accepted (e1 (j5 e)), taken-in o, ap (allCovered (file (k (j5 e)))) (pass-is (e3 o)) ∙ days-there o, v .sight-of .ensures .1),
       rw (pass-is (e3 o)) (enough e),
@@ -291,7 +283,7 @@ module _ (c : tie.After-write-samples) where
   v6 = c .before .before
 
   abbrev e5 : tie.Else5
-  e5 = v6 .before .before .before .before
+  e5 = v6 .before
 
   abbrev j6 : tie.Else2
   j6 = j5 e5
@@ -352,8 +344,7 @@ samples-spec =
     all-covered-requires
     no-number-requires-4
     returns-4
-    cast-last
-    sub-last
+    cast-if5
     no-number-requires-5
     returns-5
     sight-of-requires

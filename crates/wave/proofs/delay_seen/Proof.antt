@@ -43,7 +43,7 @@ unfolding delaySeen
 returns c =
     let w = c .before .before .before in
     let a = w .before in
-    let s = a .before .before .before .before in
+    let s = a .before in
     let v = s .args .v in
     let e = s .args .e in
     let h = wrapped (w .wrapping-sub-u32 .result) (a .angle-for .result) (v .«right_ascension») (w .wrapping-sub-u32 .ok) (w .wrapping-sub-u32 .ensures) in

@@ -29,12 +29,12 @@ module _ (s : tie.Start) where
 
 days-at-requires : tie.Need-days-at-requires
 days-at-requires c κs =
-    let s = c .before .before .before .before in
+    let s = c .before .before in
     (s .pre .0 .0, rw (day-back (file s) (day s) (s .pre .0 .0) (s .pre .1 .0)) (day-small (file s) (day s) (s .pre .0 .0) (s .pre .1 .0)), s .pre .0 .1 .days-are)
 
 module _ (c : tie.After-days-at) where
   abbrev start : tie.Start
-  start = c .before .before .before .before .before
+  start = c .before .before .before
 
   days-are : c .days-at .result ≡ daysFrom (file start) (day start)
   days-are = c .days-at .ensures ∙ ap (daysFrom (file start)) (day-back (file start) (day start) (start .pre .0 .0) (start .pre .1 .0))
@@ -47,19 +47,18 @@ module _ (c : tie.After-days-at) where
 
 minutes-by-requires : tie.Need-minutes-by-requires
 minutes-by-requires c κs =
-    let k = c .before .before in
-    let s = start k in
-    (today k, day-in (file s) (day s) (s .pre .0 .0) (s .pre .1 .0), s .pre .1 .1)
+    let s = start c in
+    (today c, day-in (file s) (day s) (s .pre .0 .0) (s .pre .1 .0), s .pre .1 .1)
 
 n-back : (c : tie.After-minutes-by) → toZ w64 (ofZ w64 (c .minutes-by .result)) ≡ c .minutes-by .result
 n-back c = ret (c .minutes-by .result) (c .minutes-by .ok)
 
 minute-at-requires : tie.Need-minute-at-requires
-minute-at-requires c κs = (rw (n-back c) (c .minutes-by .ensures .1), start (c .before .before .before) .pre .0 .1 .minute-is)
+minute-at-requires c κs = (rw (n-back c) (c .minutes-by .ensures .1), start (c .before) .pre .0 .1 .minute-is)
 
 module _ (c : tie.After-minute-at) where
   abbrev k : tie.After-days-at
-  k = c .before .before .before .before
+  k = c .before .before
 
   abbrev s : tie.Start
   s = start k

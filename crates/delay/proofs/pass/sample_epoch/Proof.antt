@@ -27,8 +27,8 @@ module _ (s : tie.Start) where
   ms-back : toZ w64 (ofZ w64 (s .args .p .ms)) ≡ s .args .p .ms
   ms-back = is (var (s .args .p .ms) 86399999 (in-abs (s .args .p .ms) (s .pre .0 .ms))) tt
 
-cast-n : tie.Need-cast-n
-cast-n c = search needs
+cast-later : tie.Need-cast-later
+cast-later c = search needs
 
 mul-later : tie.Need-mul-later
 mul-later c = ok (added (c .before .before .before)) tt
@@ -46,4 +46,4 @@ returns c =
     c .later .ensures ∙ ap (λ (x : Epoch). laterOf x (toZ w64 (ofZ w64 (toZ w64 (s .args .i) *ℤ toZ w64 (ofZ w64 (s .args .p .step)))))) e ∙ ap (laterOf (startOf (s .args .p))) (added-is s)
 
 pub sample-epoch-spec : {M : Type 1} → statement M
-sample-epoch-spec = tie.close (tie.spec cast-n mul-later later-requires returns)
+sample-epoch-spec = tie.close (tie.spec cast-later mul-later later-requires returns)

@@ -44,14 +44,14 @@ there-requires c κs = search needs
 there-requires-2 : tie.Need-there-requires-2
 there-requires-2 c κs = search needs
 
-first-is : (c : tie.After-there) → c .there .result ≡ hasDay (file (c .before .before .before .before)) (day (c .before .before .before .before))
-first-is c = c .there .ensures ∙ today-told (c .before .before .before .before)
+first-is : (c : tie.After-there) → c .there .result ≡ hasDay (file (c .before .before)) (day (c .before .before))
+first-is c = c .there .ensures ∙ today-told (c .before .before)
 
 returns : tie.Need-returns
 unfolding covers
 returns c =
     let t = c .before .before in
-    let d = t .before .before .before .before .before in
+    let d = t .before .before .before in
     let today : hasDay (file d) (day d) ≡ true = sym (first-is (t .before)) ∙ t .if1 .taken in
     simp (c .there2 .ensures, today-told d, next-told d, today)
 

@@ -40,9 +40,8 @@ module _ (c : tie.After-days-from) where
 
 minutes-by-requires : tie.Need-minutes-by-requires
 minutes-by-requires c κs =
-    let k = c .before .before in
-    let s = start k in
-    (today k, day-in (file s) (day s) (s .pre .0) (s .pre .1), s .pre .2)
+    let s = start c in
+    (today c, day-in (file s) (day s) (s .pre .0) (s .pre .1), s .pre .2)
 
 n-back : (c : tie.After-minutes-by) → toZ w64 (ofZ w64 (c .minutes-by .result)) ≡ c .minutes-by .result
 n-back c = ret (c .minutes-by .result) (c .minutes-by .ok)
@@ -54,7 +53,7 @@ earth-at-requires : tie.Need-earth-at-requires
 unfolding tideOf
 earth-at-requires c κs =
     let n = c .before in
-    let k = n .before .before .before in
+    let k = n .before in
     let s = start k in (
       (today k, next k, day-in (file s) (day s) (s .pre .0) (s .pre .1), s .pre .2),
       ret (c .tide-at-minute .result) (c .tide-at-minute .ok) ∙ c .tide-at-minute .ensures ∙ ap tideAt (n-back n ∙ n .minutes-by .ensures .0),
@@ -62,7 +61,7 @@ earth-at-requires c κs =
 
 returns : tie.Need-returns
 returns c =
-    let k = c .before .before .before .before .before in
+    let k = c .before .before .before in
     let s = start k in
     (c .earth-at .ensures .0 ∙ earth-by (file s) (s .args .e) (s .pre .0) (s .pre .1) (k .days-from .result) (days-are k), c .earth-at .ensures .1)
 

@@ -30,7 +30,7 @@ returns c =
     let k = c .before in
     let cos = ret (k .cosine .result) (k .cosine .ok) ∙ k .cosine .ensures in
     let sin = ret (c .sine .result) (c .sine .ok) ∙ c .sine .ensures in
-    by-both (k .before .args .t) (simp (cos, sin)) (simp (cos, sin))
+    by-both (k .before .args .t) cos sin
 
 pub turn-by-spec : {M : Type 1} → statement M
 turn-by-spec = tie.close (tie.spec cosine-requires sine-requires returns)

@@ -26,7 +26,7 @@ returns-2 : tie.Need-returns-2
 returns-2 c =
     let s = c .before .before .before .before in
     let tide = ret (c .tide-at-minute .result) (c .tide-at-minute .ok) ∙ c .tide-at-minute .ensures ∙ ap tideAt (back (s .fits .n)) in
-    by-both (s .args .n) (back (s .fits .n)) (simp tide)
+    by-both (s .args .n) (back (s .fits .n)) tide
 
 pub minute-at-spec : {M : Type 1} → statement M
 minute-at-spec = tie.close (tie.spec returns tide-at-minute-requires returns-2)
