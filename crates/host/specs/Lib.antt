@@ -1,1 +1,2 @@
 pub mod Nine
+pub mod Promises

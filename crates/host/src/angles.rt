@@ -3,11 +3,9 @@ use earth::AngleAnswer;
 use earth::EpochAnswer;
 use earth::TicksAnswer;
 use whole::Number;
-ghost use mathlib.Core.Path.{_≡_};
-ghost use Rattle.sine.specs.Sine.{sineOf, cosineOf};
-ghost use Rattle.earth.specs.Rotation.{rotationOf};
-ghost use Rattle.earth.specs.Calls.{laterOutcome, argumentsOutcome, tideOutcome, angleOutcome};
-ghost use Rattle.host.specs.Nine.{nineOf};
+ghost use Rattle.sine.specs.Promises.{SinePromise, CosinePromise};
+ghost use Rattle.earth.specs.Promises.{LaterPromise, ArgumentsPromise, TidePromise, AnglePromise};
+ghost use Rattle.host.specs.Promises.{NinePromise};
 
 // Three rows of three, row after row.
 #[repr(C)]
@@ -25,49 +23,49 @@ pub struct Rotation {
 
 #[no_mangle]
 pub extern "C" fn fringe_sine(tick: u32) -> i64
-    ensures { λ r. ⌜ r ≡ sineOf tick ⌝ }
+    ensures { λ r. ⌜ SinePromise tick r ⌝ }
 {
     sine::sine(tick)
 }
 
 #[no_mangle]
 pub extern "C" fn fringe_cosine(tick: u32) -> i64
-    ensures { λ r. ⌜ r ≡ cosineOf tick ⌝ }
+    ensures { λ r. ⌜ CosinePromise tick r ⌝ }
 {
     sine::cosine(tick)
 }
 
 #[no_mangle]
 pub extern "C" fn fringe_later(day: i64, ms: i64, add: i64) -> EpochAnswer
-    ensures { λ r. ⌜ r ≡ laterOutcome day ms add ⌝ }
+    ensures { λ r. ⌜ LaterPromise day ms add r ⌝ }
 {
     earth::later(day, ms, add)
 }
 
 #[no_mangle]
 pub extern "C" fn fringe_arguments(day: i64, ms: i64, tai: i64) -> TicksAnswer
-    ensures { λ r. ⌜ r ≡ argumentsOutcome day ms tai ⌝ }
+    ensures { λ r. ⌜ ArgumentsPromise day ms tai r ⌝ }
 {
     earth::arguments(day, ms, tai)
 }
 
 #[no_mangle]
 pub extern "C" fn fringe_tide(day: i64, ms: i64, tai: i64) -> Number
-    ensures { λ r. ⌜ r ≡ tideOutcome day ms tai ⌝ }
+    ensures { λ r. ⌜ TidePromise day ms tai r ⌝ }
 {
     earth::tide(day, ms, tai)
 }
 
 #[no_mangle]
 pub extern "C" fn fringe_angle_at(day: i64, f: i64) -> AngleAnswer
-    ensures { λ r. ⌜ r ≡ angleOutcome day f ⌝ }
+    ensures { λ r. ⌜ AnglePromise day f r ⌝ }
 {
     earth::angle_at(day, f)
 }
 
 #[no_mangle]
 pub extern "C" fn fringe_rotate(tick: u32) -> Rotation
-    ensures { λ r. ⌜ r ≡ nineOf (rotationOf tick) ⌝ }
+    ensures { λ r. ⌜ NinePromise tick r ⌝ }
 {
     let rows = earth::rotate(tick);
     let x = rows[0];

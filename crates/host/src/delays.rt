@@ -1,13 +1,11 @@
 // Orientation, delays, and the samples of a pass.
 use delay::EarthAnswer;
 use whole::Number;
-ghost use mathlib.Core.Path.{_≡_};
-ghost use lib.ListN.{length};
-ghost use Rattle.delay.specs.Calls.{orientationOutcome, delayOutcome, samplesOutcome, samplesRoom};
+ghost use Rattle.delay.specs.Promises.{OrientationPromise, DelayPromise, SamplesPromise};
 
 #[no_mangle]
 pub extern "C" fn fringe_orientation(file: &[u8], day: i64, ms: i64) -> EarthAnswer
-    ensures { λ r. ⌜ r ≡ orientationOutcome (now (file .entry)) day ms ⌝ }
+    ensures { λ r. ⌜ OrientationPromise (now (file .entry)) day ms r ⌝ }
 {
     delay::orientation(file, day, ms)
 }
@@ -21,14 +19,14 @@ pub extern "C" fn fringe_delay(
     day: i64,
     ms: i64,
 ) -> Number
-    ensures { λ r. ⌜ r ≡ delayOutcome (now (file .entry)) station1 station2 source day ms ⌝ }
+    ensures { λ r. ⌜ DelayPromise (now (file .entry)) station1 station2 source day ms r ⌝ }
 {
     delay::delay(file, station1, station2, source, day, ms)
 }
 
 #[no_mangle]
 pub extern "C" fn fringe_samples(file: &[u8], pass: usize, room: &mut [i64]) -> Number
-    ensures { λ r. ⌜ (r ≡ samplesOutcome (now (file .entry)) pass (length (now (room .entry)))) × (now (room .exit) ≡ samplesRoom (now (file .entry)) pass (now (room .entry))) ⌝ }
+    ensures { λ r. ⌜ SamplesPromise (now (file .entry)) pass (now (room .entry)) r (now (room .exit)) ⌝ }
 {
     delay::samples(file, pass, room)
 }

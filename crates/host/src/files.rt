@@ -6,49 +6,47 @@ use session::Place;
 use session::Source;
 use session::Station;
 use whole::Number;
-ghost use mathlib.Core.Path.{_≡_};
-ghost use Rattle.session.specs.Records.{checkOf, stationAt, sourceAt, dayAt, passAt};
-ghost use Rattle.session.specs.Fault.{faultOf};
-ghost use Rattle.writer.specs.Writing.{writtenOf, roomAfter};
+ghost use Rattle.session.specs.Promises.{CheckPromise, FaultPromise, StationPromise, SourcePromise, DayPromise, PassPromise};
+ghost use Rattle.writer.specs.Promises.{WritePromise};
 
 #[no_mangle]
 pub extern "C" fn fringe_check(file: &[u8]) -> Counts
-    ensures { λ r. ⌜ r ≡ checkOf (now (file .entry)) ⌝ }
+    ensures { λ r. ⌜ CheckPromise (now (file .entry)) r ⌝ }
 {
     session::check(file)
 }
 
 #[no_mangle]
 pub extern "C" fn fringe_fault(file: &[u8]) -> Place
-    ensures { λ r. ⌜ r ≡ faultOf (now (file .entry)) ⌝ }
+    ensures { λ r. ⌜ FaultPromise (now (file .entry)) r ⌝ }
 {
     session::fault(file)
 }
 
 #[no_mangle]
 pub extern "C" fn fringe_station_at(file: &[u8], index: usize) -> Station
-    ensures { λ r. ⌜ r ≡ stationAt (now (file .entry)) index ⌝ }
+    ensures { λ r. ⌜ StationPromise (now (file .entry)) index r ⌝ }
 {
     session::station_at(file, index)
 }
 
 #[no_mangle]
 pub extern "C" fn fringe_source_at(file: &[u8], index: usize) -> Source
-    ensures { λ r. ⌜ r ≡ sourceAt (now (file .entry)) index ⌝ }
+    ensures { λ r. ⌜ SourcePromise (now (file .entry)) index r ⌝ }
 {
     session::source_at(file, index)
 }
 
 #[no_mangle]
 pub extern "C" fn fringe_day_at(file: &[u8], index: usize) -> Day
-    ensures { λ r. ⌜ r ≡ dayAt (now (file .entry)) index ⌝ }
+    ensures { λ r. ⌜ DayPromise (now (file .entry)) index r ⌝ }
 {
     session::day_at(file, index)
 }
 
 #[no_mangle]
 pub extern "C" fn fringe_pass_at(file: &[u8], index: usize) -> Pass
-    ensures { λ r. ⌜ r ≡ passAt (now (file .entry)) index ⌝ }
+    ensures { λ r. ⌜ PassPromise (now (file .entry)) index r ⌝ }
 {
     session::pass_at(file, index)
 }
@@ -61,8 +59,7 @@ pub extern "C" fn fringe_write(
     passes: &[i64],
     room: &mut [u8],
 ) -> Number
-    ensures { λ w. ⌜ (w ≡ writtenOf (now (stations .entry)) (now (sources .entry)) (now (days .entry)) (now (passes .entry)) (now (room .entry)))
-        × (now (room .exit) ≡ roomAfter (now (stations .entry)) (now (sources .entry)) (now (days .entry)) (now (passes .entry)) (now (room .entry))) ⌝ }
+    ensures { λ r. ⌜ WritePromise (now (stations .entry)) (now (sources .entry)) (now (days .entry)) (now (passes .entry)) (now (room .entry)) r (now (room .exit)) ⌝ }
 {
     writer::write(stations, sources, days, passes, room)
 }
