@@ -26,7 +26,21 @@ def refused_passes_not_counted(file):
     return made
 
 
+def passes_in_turn_about(file):
+    """The last pass is printed first."""
+    texts = []
+    for line in RIGHT_LINES(file):
+        if line.startswith(("pass", "refused")):
+            texts.append([])
+        texts[-1].append(line)
+    return [line for text in reversed(texts) for line in text]
+
+
+# The first three have the contracts of the right program: what is written, how often and in which order, no contract says.
 WRONG = (
+    ("nothing printed of a pass", program, "lines", lambda file: [line for line in RIGHT_LINES(file) if session.refusal(file)]),
+    ("every pass printed twice", program, "lines_of_pass", lambda lists, index: 2 * RIGHT_PASS(lists, index)),
+    ("the passes printed from the last to the first", program, "lines", passes_in_turn_about),
     ("nothing printed after a refused pass", program, "lines", ends_at_a_refused_pass),
     ("the pass line of a refused pass kept", program, "lines_of_pass", pass_line_kept),
     ("an index that leaves refused passes out", program, "lines", refused_passes_not_counted),
