@@ -5,10 +5,10 @@ use native.Mathlib.Omega.{arith}
 use native.Mathlib.Nat.{mul-le-mul-left}
 use lib.IntN.{ℤ, pos, negsuc, negℤ, _+ℤ_, _-ℤ_, _*ℤ_}
 use Rattle.whole.specs.Whole.{posPart, negPart, ∣_∣, floorZ, modZ}
-use Rattle.whole.proofs.Quote.{⟨_⟩, #, _⊕_, _⊝_, _⊗_, ⊖, by≡, of≡, bal}
+use Rattle.whole.proofs.Quote.{E, ⟨_⟩, #, _⊕_, _⊝_, _⊗_, ⊖, ev, by≡, of≡, bal}
 use Rattle.whole.proofs.Rounding.{floor-mod, mod-below}
 use Rattle.whole.specs.Ranges.{In}
-use Rattle.earth.specs.Ranges.{InDay, InF}
+use Rattle.earth.specs.Ranges.{InF}
 use Rattle.earth.specs.Angle.{fmOf, sumOf, eOf, eraOf, turn, exactOf, Near}
 use Rattle.whole.proofs.Linear.{size-to}
 use Rattle.earth.proofs.Floors.{floor-more, mod-more}
@@ -86,31 +86,26 @@ floor-fm m ms e =
     ap (λ (z : ℤ). floorZ z 432) (by≡ (# 1368905955 ⊗ ⟨ m ⟩) (# (1368905955 * ms) ⊕ ⊖ (# 342226488750) ⊗ # 432) (omega (arith, of≡ (# ms) (⟨ m ⟩ ⊕ # 108000) e)))
     ∙ floor-more (pos (1368905955 * ms)) (negℤ (pos 342226488750)) 432 (omega arith)
 
-pub sum-is : (d f : ℤ) (days us ms : ℕ) → pos days ≡ d -ℤ pos 41317 → pos us ≡ f +ℤ pos 108000000 → pos ms ≡ fmOf f +ℤ pos 108000
-    → (27683252762116830 + 273781191135448 * days + 10 * (3125000 * us / 27) + 1368905955 * ms / 432) % 100000000000000000 ≡ eOf d f
+-- the rule's part of the day alone, less what 108 s give, and some turns
+abbrev pub day-part : ℤ → ℕ → E
+day-part d turns =
+    # 27768836730832276 ⊕ # 273781191135448 ⊗ (⟨ d ⟩ ⊝ # 51544) ⊝ # (10 * 12500000000000 + 342226488750) ⊕ # turns ⊗ # (10 ^ 17)
+
+pub sum-is : (d f : ℤ) (at turns us ms : ℕ) → pos at ≡ ev (day-part d turns) → pos us ≡ f +ℤ pos 108000000 → pos ms ≡ fmOf f +ℤ pos 108000
+    → (at + 10 * (3125000 * us / 27) + 1368905955 * ms / 432) % 100000000000000000 ≡ eOf d f
 unfolding eOf sumOf
-sum-is d f days us ms ed ef em =
+sum-is d f at turns us ms ed ef em =
     let F = 3125000 * us / 27 in
     let G = 1368905955 * ms / 432 in
-    let t = 27683252762116830 + 273781191135448 * days + 10 * F + G in
-    let e : sumOf d f ≡ pos t +ℤ negℤ (pos 28) *ℤ pos (10 ^ 17) =
+    let t = at + 10 * F + G in
+    let e : sumOf d f ≡ pos t +ℤ negℤ (pos turns) *ℤ pos (10 ^ 17) =
     rw (floor-f f us ef, floor-fm (fmOf f) ms em)
     (by≡ (# 27768836730832276 ⊕ # 273781191135448 ⊗ (⟨ d ⟩ ⊝ # 51544) ⊕ # 10 ⊗ (# F ⊕ ⊖ (# 12500000000000)) ⊕ (# G ⊕ ⊖ (# 342226488750)))
-    (# t ⊕ ⊖ (# 28) ⊗ # (10 ^ 17))
-    (omega (arith, of≡ (# days) (⟨ d ⟩ ⊝ # 41317) ed))) in
-    sym (ap (λ (z : ℤ). modZ z (10 ^ 17)) e ∙ mod-more (pos t) (negℤ (pos 28)) (10 ^ 17) (omega arith))
-
--- ---- how large they are
-pub days-at-most : (d : ℤ) (n : ℕ) → InDay d → pos n ≡ d -ℤ pos 41317 → n ≤ 28489
-days-at-most d n i e = omega (arith, i .p-hi, of≡ (# n) (⟨ d ⟩ ⊝ # 41317) e)
-
-pub us-at-most : (f : ℤ) (n : ℕ) → InF f → pos n ≡ f +ℤ pos 108000000 → n ≤ 86608000000
-us-at-most f n i e = omega (arith, i .p-hi, of≡ (# n) (⟨ f ⟩ ⊕ # 108000000) e)
+    (# t ⊕ ⊖ (# turns) ⊗ # (10 ^ 17))
+    (omega (arith, of≡ (# at) (day-part d turns) ed))) in
+    sym (ap (λ (z : ℤ). modZ z (10 ^ 17)) e ∙ mod-more (pos t) (negℤ (pos turns)) (10 ^ 17) (omega arith))
 
 -- fm from -100,000 to 86,500,000
 pub fm-in : (f : ℤ) → InF f → In (negℤ (pos 100000)) (pos 86500000) (fmOf f)
 fm-in (pos n) i = record { n-lo = omega arith; p-lo = omega arith; p-hi = omega (arith, i .p-hi); n-hi = omega arith }
 fm-in (negsuc n) i = record { n-lo = omega (arith, i .n-lo); p-lo = omega arith; p-hi = omega arith; n-hi = omega arith }
-
-pub ms-at-most : (m : ℤ) (n : ℕ) → In (negℤ (pos 100000)) (pos 86500000) m → pos n ≡ m +ℤ pos 108000 → n ≤ 86608000
-ms-at-most m n i e = omega (arith, i .p-hi, of≡ (# n) (⟨ m ⟩ ⊕ # 108000) e)

@@ -1,21 +1,21 @@
 -- Floors and rests over ℤ: how they move with whole multiples of the divisor and with sums, and that the machine's quotient and remainder of a
--- number that is not negative are they. Assumes nothing.
+-- number that is not negative are they; and the code's expressions as the proofs above read them. Assumes nothing.
 use mathlib.Core.Path.{_≡_, refl, ap, _∙_}
 use mathlib.Core.Bool.{_&&_}
 use Prim.Native.Nat.{ℕ, _+_, _*_, _/_, _%_, _^_, _≤_, _<_}
 use native.Mathlib.Omega.{arith}
 use native.Mathlib.Nat.{div-add-mod', mod-lt}
 use lib.Dec.{T, ltb}
-use lib.IntN.{ℤ, pos, negsuc, _+ℤ_, _*ℤ_}
-use lib.Signed.{_≤ℤ_, quotZ, remZ}
+use lib.IntN.{ℤ, pos, negsuc, natAbs, _+ℤ_, _*ℤ_}
+use lib.Signed.{_≤ℤ_, nonNeg, quotZ, remZ}
 use mir.Facts.{and-yes, ltb-yes}
 use mir.Syntax.{w64}
 use mir.Val.{toZ, ofZ}
 use Rattle.whole.specs.Whole.{posPart, negPart, ∣_∣, floorZ, modZ}
 use Rattle.whole.specs.Ranges.{In}
 use Rattle.whole.proofs.Linear.{ret}
-use Rattle.whole.proofs.Quote.{⟨_⟩, #, _⊕_, _⊗_, by≡, by≤, by<, of≡}
-use Rattle.whole.proofs.Machine.{M, var, val, raw, safe, is}
+use Rattle.whole.proofs.Quote.{E, ⟨_⟩, #, _⊕_, _⊝_, _⊗_, by≡, by≤, by<, of≡}
+use Rattle.whole.proofs.Machine.{M, lit, var, any, pvar, _⊞_, _⊟_, _⊠_, _⊘_, val, raw, safe, is}
 use Rattle.whole.proofs.Rounding.{floor-mod, mod-below, mod-unique, floor-unique}
 
 -- k divisors more
@@ -60,6 +60,28 @@ rest-is m b t s h =
     let hi : b < 2 ^ 63 = ltb-yes (u .1) in
     let f : modZ (val m) b < 2 ^ 63 = omega (arith, mod-below (val m) b lo) in
     ap (λ (z : ℤ). toZ w64 (ofZ w64 (remZ z (pos b)))) (is m t) ∙ ap (λ (z : ℤ). toZ w64 (ofZ w64 z)) (rem-mod (val m) b h) ∙ ret (pos (modZ (val m) b)) f
+
+-- ---- an expression of the code, for `by≡` and `by≤` to read: its operands stand once, in the expression
+abbrev pub read : M → E
+read (lit z) = ⟨ z ⟩
+read (var z k h) = ⟨ z ⟩
+read (any z f) = ⟨ z ⟩
+read (pvar z k h p) = ⟨ z ⟩
+read (a ⊞ b) = read a ⊕ read b
+read (a ⊟ b) = read a ⊝ read b
+read (a ⊠ b) = read a ⊗ read b
+read (a ⊘ b) = ⟨ val (a ⊘ b) ⟩
+
+-- what its cast to u64 gives, where the cast's need is met
+abbrev pub cast : M → ℕ
+cast m = natAbs (toZ w64 (ofZ w64 (raw m)))
+
+not-below : (z : ℤ) → T (nonNeg z) → pos (natAbs z) ≡ z
+not-below (pos n) h = refl
+not-below (negsuc n) h = absurd h
+
+pub cast-gives : (m : M) → T (safe m) → T (nonNeg (toZ w64 (ofZ w64 (raw m)))) → pos (cast m) ≡ val m
+cast-gives m t h = not-below (toZ w64 (ofZ w64 (raw m))) h ∙ is m t
 
 -- ---- a value that lies in a range, as a leaf of an expression
 pub in-abs : {lo hi : ℤ} (z : ℤ) → In lo hi z → ∣ z ∣ ≤ negPart lo + posPart hi

@@ -2,20 +2,26 @@
 use borrow.Author.Needs.{needs}
 use mathlib.Core.Path.{_≡_, sym, ap, _∙_}
 use mathlib.Core.Bool.{Bool, true, _&&_}
-use lib.IntN.{pos}
+use native.Mathlib.Omega.{arith}
+use lib.IntN.{ℤ, pos}
+use Rattle.whole.specs.Ranges.{within}
 use Rattle.whole.proofs.Linear.{back, ret}
 use Rattle.earth.specs.declared.time.Epoch.{Epoch}
-use Rattle.earth.specs.Ranges.{dayOk, msOk, addOk}
+use Rattle.earth.specs.Ranges.{dayOk, msOk, InAdd}
 use Rattle.earth.specs.Epoch.{laterOf}
 use Rattle.earth.specs.Calls.{epochOf, epochOr2, laterOutcome}
 use Rattle.earth.proofs.Ranges.{epoch-yes}
 use Rattle.earth.proofs.later.Statement.{statement}
 use Rattle.earth.proofs.later.Tie as tie
 
-ok-is : (c : tie.After-epoch-ok) → let a = c .before .args in c .epoch-ok .result ≡ (dayOk (a .day) && (msOk (a .ms) && addOk (a .add)))
+-- the most that the code lets add
+abbrev most : ℤ
+most = pos 14742000000
+
+ok-is : (c : tie.After-epoch-ok) → let a = c .before .args in c .epoch-ok .result ≡ (dayOk (a .day) && (msOk (a .ms) && within (pos 0) most (a .add)))
 ok-is c = simp (back, c .before .fits .day, c .before .fits .ms, c .before .fits .add) at (c .epoch-ok .ensures)
 
-accepted : (c : tie.Then1) → let a = c .before .before .args in (dayOk (a .day) && (msOk (a .ms) && addOk (a .add))) ≡ true
+accepted : (c : tie.Then1) → let a = c .before .before .args in (dayOk (a .day) && (msOk (a .ms) && within (pos 0) most (a .add))) ≡ true
 accepted c = sym (ok-is (c .before)) ∙ c .if1 .taken
 
 epoch-ok-requires : tie.Need-epoch-ok-requires
@@ -24,7 +30,9 @@ epoch-ok-requires c κs = search needs
 later-requires : tie.Need-later-requires
 later-requires c κs =
     let s = c .before .before in
-    simp (back, s .fits .day, s .fits .ms, s .fits .add) (epoch-yes (s .args .day) (s .args .ms) (pos 14742000000) (s .args .add) (accepted c))
+    let r = epoch-yes (s .args .day) (s .args .ms) most (s .args .add) (accepted c) in
+    let i : InAdd (s .args .add) = record { n-lo = r .2 .n-lo; p-lo = r .2 .p-lo; p-hi = omega (arith, r .2 .p-hi); n-hi = r .2 .n-hi } in
+    simp (back, s .fits .day, s .fits .ms, s .fits .add) (r .0, r .1, i)
 
 returns : tie.Need-returns
 unfolding laterOutcome

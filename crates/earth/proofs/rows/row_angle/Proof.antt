@@ -1,3 +1,4 @@
+-- `earth::rows::row_angle` meets its contract.
 use mathlib.Core.Path.{_≡_, sym, ap, _∙_}
 use Prim.Native.Nat.{ℕ, _+_, _%_, _^_, _≤_}
 use mathlib.Core.List.{List}
@@ -13,10 +14,6 @@ use Rattle.earth.proofs.Floors.{mod-sum}
 use borrow.Author.Needs.{needs}
 use Rattle.earth.proofs.rows.row_angle.Statement.{statement}
 use Rattle.earth.proofs.rows.row_angle.Tie as tie
-use Rattle.earth.proofs.rows.row_angle.Reads as reads
-use Rattle.earth.proofs.rows.row_angle.Lts as lts
-use Rattle.earth.proofs.rows.times.Reads as times-reads
-use Rattle.std.proofs.num.wrapping_add_u32.Reads as wrapping-add-u32-reads
 
 array-copy-out-times : tie.Need-array-copy-out-times
 array-copy-out-times c = search needs
@@ -60,87 +57,48 @@ times-requires-5 c κs = search needs
 wrapping-add-u32-requires-4 : tie.Need-wrapping-add-u32-requires-4
 wrapping-add-u32-requires-4 c κs = search needs
 
--- an entry of the row, read back from its bits
-entry-back : (z : ℤ) → ∣ z ∣ ≤ 1000 → toZ w64 (ofZ w64 z) ≡ z
-entry-back z h = back (abs-fits (omega arith))
-
--- column k of the row times the tick t
+-- column k of the row times the tick t, wrapping
 abbrev part : List ℤ → ℕ → ℕ → ℕ
 part r k t = modZ (entry r k *ℤ pos t) (2 ^ 32)
 
-times-is : (c : tie.After-times) → let s = c .before .before in c .times .result ≡ part (s .args .t1) 0 (s .args .a .l)
-times-is c =
-    let s = c .before .before in
-    c .times .ensures ∙ ap (λ (z : ℤ). modZ (z *ℤ pos (s .args .a .l)) (2 ^ 32)) (entry-back (entry (s .args .t1) 0) (s .pre .l))
+-- what `times` gave, of an entry that is read back from its bits
+part-is : (r : List ℤ) (k t n : ℕ) → ∣ entry r k ∣ ≤ 1000 → n ≡ modZ (toZ w64 (ofZ w64 (entry r k)) *ℤ pos t) (2 ^ 32) → n ≡ part r k t
+part-is r k t n h e =
+    let b : toZ w64 (ofZ w64 (entry r k)) ≡ entry r k = back (abs-fits (omega arith)) in
+    e ∙ ap (λ (z : ℤ). modZ (z *ℤ pos t) (2 ^ 32)) b
 
-times2-is : (c : tie.After-times2) → let s = c .before .before .before .before in c .times2 .result ≡ part (s .args .t1) 1 (s .args .a .lp)
-times2-is c =
-    let s = c .before .before .before .before in
-    c .times2 .ensures ∙ ap (λ (z : ℤ). modZ (z *ℤ pos (s .args .a .lp)) (2 ^ 32)) (entry-back (entry (s .args .t1) 1) (s .pre .lp))
-
-times3-is : (c : tie.After-times3) → let s = c .before .before .before .before .before .before .before in c .times3 .result ≡ part (s .args .t1) 2 (s .args .a .f)
-times3-is c =
-    let s = c .before .before .before .before .before .before .before in
-    c .times3 .ensures ∙ ap (λ (z : ℤ). modZ (z *ℤ pos (s .args .a .f)) (2 ^ 32)) (entry-back (entry (s .args .t1) 2) (s .pre .f))
-
-times4-is : (c : tie.After-times4) → let s = c .before .before .before .before .before .before .before .before .before .before in c .times4 .result ≡ part (s .args .t1) 3 (s .args .a .d)
-times4-is c =
-    let s = c .before .before .before .before .before .before .before .before .before .before in
-    c .times4 .ensures ∙ ap (λ (z : ℤ). modZ (z *ℤ pos (s .args .a .d)) (2 ^ 32)) (entry-back (entry (s .args .t1) 3) (s .pre .d))
-
-times5-is : (c : tie.After-times5) → let s = c .before .before .before .before .before .before .before .before .before .before .before .before .before in c .times5 .result ≡ part (s .args .t1) 4 (s .args .a .om)
-times5-is c =
-    let s = c .before .before .before .before .before .before .before .before .before .before .before .before .before in
-    c .times5 .ensures ∙ ap (λ (z : ℤ). modZ (z *ℤ pos (s .args .a .om)) (2 ^ 32)) (entry-back (entry (s .args .t1) 4) (s .pre .om))
-
--- column k of the row times its argument, and the sum of the first columns
-module _ (r : List ℤ) (a : Delaunay) where
-  abbrev p0 : ℤ
-  p0 = entry r 0 *ℤ pos (a .l)
-
-  abbrev p1 : ℤ
-  p1 = p0 +ℤ entry r 1 *ℤ pos (a .lp)
-
-  abbrev p2 : ℤ
-  p2 = p1 +ℤ entry r 2 *ℤ pos (a .f)
-
-  abbrev p3 : ℤ
-  p3 = p2 +ℤ entry r 3 *ℤ pos (a .d)
-
-  abbrev p4 : ℤ
-  p4 = p3 +ℤ entry r 4 *ℤ pos (a .om)
-
-sum1-is : (c : tie.After-wrapping-add-u32) → let s = c .before .before .before .before .before in c .wrapping-add-u32 .result ≡ modZ (p1 (s .args .t1) (s .args .a)) (2 ^ 32)
-sum1-is c =
-    let s = c .before .before .before .before .before in
-    c .wrapping-add-u32 .ensures
-    ∙ (λ i. (times-is (c .before .before .before) i + times2-is (c .before) i) % 2 ^ 32)
-    ∙ sym (mod-sum (p0 (s .args .t1) (s .args .a)) (entry (s .args .t1) 1 *ℤ pos (s .args .a .lp)) (2 ^ 32) (omega arith))
-
-sum2-is : (c : tie.After-wrapping-add-u322) → let s = c .before .before .before .before .before .before .before .before in c .wrapping-add-u322 .result ≡ modZ (p2 (s .args .t1) (s .args .a)) (2 ^ 32)
-sum2-is c =
-    let s = c .before .before .before .before .before .before .before .before in
-    c .wrapping-add-u322 .ensures
-    ∙ (λ i. (sum1-is (c .before .before .before) i + times3-is (c .before) i) % 2 ^ 32)
-    ∙ sym (mod-sum (p1 (s .args .t1) (s .args .a)) (entry (s .args .t1) 2 *ℤ pos (s .args .a .f)) (2 ^ 32) (omega arith))
-
-sum3-is : (c : tie.After-wrapping-add-u323) → let s = c .before .before .before .before .before .before .before .before .before .before .before in c .wrapping-add-u323 .result ≡ modZ (p3 (s .args .t1) (s .args .a)) (2 ^ 32)
-sum3-is c =
-    let s = c .before .before .before .before .before .before .before .before .before .before .before in
-    c .wrapping-add-u323 .ensures
-    ∙ (λ i. (sum2-is (c .before .before .before) i + times4-is (c .before) i) % 2 ^ 32)
-    ∙ sym (mod-sum (p2 (s .args .t1) (s .args .a)) (entry (s .args .t1) 3 *ℤ pos (s .args .a .d)) (2 ^ 32) (omega arith))
-
-sum4-is : (c : tie.After-wrapping-add-u324) → let s = c .before .before .before .before .before .before .before .before .before .before .before .before .before .before in c .wrapping-add-u324 .result ≡ modZ (p4 (s .args .t1) (s .args .a)) (2 ^ 32)
-sum4-is c =
-    let s = c .before .before .before .before .before .before .before .before .before .before .before .before .before .before in
-    c .wrapping-add-u324 .ensures
-    ∙ (λ i. (sum3-is (c .before .before .before) i + times5-is (c .before) i) % 2 ^ 32)
-    ∙ sym (mod-sum (p3 (s .args .t1) (s .args .a)) (entry (s .args .t1) 4 *ℤ pos (s .args .a .om)) (2 ^ 32) (omega arith))
+-- the five parts added one by one, each time wrapping
+wrapped : (r : List ℤ) (a : Delaunay) → ((((part r 0 (a .l) + part r 1 (a .lp)) % 2 ^ 32 + part r 2 (a .f)) % 2 ^ 32 + part r 3 (a .d)) % 2 ^ 32 + part r 4 (a .om)) % 2 ^ 32 ≡ rowAngle r a
+unfolding rowAngle
+wrapped r a =
+    let p0 = entry r 0 *ℤ pos (a .l) in
+    let q1 = entry r 1 *ℤ pos (a .lp) in
+    let q2 = entry r 2 *ℤ pos (a .f) in
+    let q3 = entry r 3 *ℤ pos (a .d) in
+    let q4 = entry r 4 *ℤ pos (a .om) in
+    let s1 = mod-sum p0 q1 (2 ^ 32) (omega arith) in
+    let s2 = mod-sum (p0 +ℤ q1) q2 (2 ^ 32) (omega arith) ∙ (λ i. (s1 i + part r 2 (a .f)) % 2 ^ 32) in
+    let s3 = mod-sum (p0 +ℤ q1 +ℤ q2) q3 (2 ^ 32) (omega arith) ∙ (λ i. (s2 i + part r 3 (a .d)) % 2 ^ 32) in
+    sym (mod-sum (p0 +ℤ q1 +ℤ q2 +ℤ q3) q4 (2 ^ 32) (omega arith) ∙ (λ i. (s3 i + part r 4 (a .om)) % 2 ^ 32))
 
 returns : tie.Need-returns
-unfolding rowAngle
-returns c = sum4-is c
+returns c =
+    let c3 = c .before .before .before in
+    let c2 = c3 .before .before .before in
+    let c1 = c2 .before .before .before in
+    let c0 = c1 .before .before .before in
+    let s = c0 .before .before in
+    let r = s .args .t1 in
+    let a = s .args .a in
+    let x0 = part-is r 0 (a .l) (c0 .times .result) (s .pre .l) (c0 .times .ensures) in
+    let x1 = part-is r 1 (a .lp) (c1 .before .times2 .result) (s .pre .lp) (c1 .before .times2 .ensures) in
+    let x2 = part-is r 2 (a .f) (c2 .before .times3 .result) (s .pre .f) (c2 .before .times3 .ensures) in
+    let x3 = part-is r 3 (a .d) (c3 .before .times4 .result) (s .pre .d) (c3 .before .times4 .ensures) in
+    let x4 = part-is r 4 (a .om) (c .before .times5 .result) (s .pre .om) (c .before .times5 .ensures) in
+    let w1 = c1 .wrapping-add-u32 .ensures ∙ (λ i. (x0 i + x1 i) % 2 ^ 32) in
+    let w2 = c2 .wrapping-add-u322 .ensures ∙ (λ i. (w1 i + x2 i) % 2 ^ 32) in
+    let w3 = c3 .wrapping-add-u323 .ensures ∙ (λ i. (w2 i + x3 i) % 2 ^ 32) in
+    c .wrapping-add-u324 .ensures ∙ (λ i. (w3 i + x4 i) % 2 ^ 32) ∙ wrapped r a
 
 pub row-angle-spec : {M : Type 1} → statement M
 row-angle-spec =

@@ -4,9 +4,6 @@ use Rattle.whole.proofs.Linear.{back}
 use Rattle.earth.specs.DelaunayArguments.{argumentsOf}
 use Rattle.earth.proofs.ticks.arguments_at.Statement.{statement}
 use Rattle.earth.proofs.ticks.arguments_at.Tie as tie
-use Rattle.earth.proofs.ticks.arguments_at.Reads as reads
-use Rattle.earth.proofs.ticks.arguments_at.Lts as lts
-use Rattle.earth.proofs.ticks.argument.Reads as argument-reads
 
 argument-requires : tie.Need-argument-requires
 argument-requires c κs = search needs

@@ -1,46 +1,35 @@
 -- `earth::turn::turn_of` meets its contract.
 use mathlib.Core.Path.{_≡_, ap, _∙_}
-use Prim.Native.Nat.{_≤_}
+use Prim.Native.Nat.{ℕ, _+_, _*_, _≤_}
 use native.Mathlib.Omega.{arith}
-use lib.IntN.{ℤ, pos, negℤ, natAbs, _+ℤ_, _-ℤ_}
-use lib.Signed.{_≤ℤ_}
-use mir.Syntax.{w64}
-use mir.Val.{toZ, ofZ}
+use lib.IntN.{ℤ, pos, negℤ, _+ℤ_, _-ℤ_}
 use Rattle.whole.specs.Ranges.{In}
 use Rattle.whole.proofs.Linear.{back}
-use Rattle.whole.proofs.Quote.{⟨_⟩, #, _⊕_, _⊝_, by≤}
-use Rattle.whole.proofs.Machine.{M, lit, raw, _⊞_, _⊟_, val, ok, cast-ok, cast-is}
+use Rattle.whole.proofs.Quote.{#, ev, by≡, by≤, of≡}
+use Rattle.whole.proofs.Machine.{M, lit, _⊞_, _⊟_, ok, cast-ok, cast-bnd}
 use Rattle.earth.specs.Angle.{fmOf}
-use Rattle.earth.proofs.Floors.{leaf}
-use Rattle.earth.proofs.Angle.{fm-in, sum-is, days-at-most, us-at-most, ms-at-most}
+use Rattle.earth.proofs.Floors.{leaf, read, cast, cast-gives}
+use Rattle.earth.proofs.Angle.{fm-in, day-part, sum-is}
 use Rattle.earth.proofs.turn.turn_of.Statement.{statement}
 use Rattle.earth.proofs.turn.turn_of.Tie as tie
 
--- what the code casts, and that it is not negative
+-- the day from which the code counts, E there, and how many turns that is ahead of the rule's sum
+abbrev first : ℤ
+first = pos 41317
+
+abbrev start : ℕ
+start = 27683252762116830
+
+abbrev turns : ℕ
+turns = 28
+
+-- ---- what the code casts is not below 0
 module _ (s : tie.Start) where
   abbrev days : M
-  days = leaf (s .args .day) (s .pre .0) ⊟ lit (pos 41317)
+  days = leaf (s .args .day) (s .pre .0) ⊟ lit first
 
   abbrev us : M
   us = leaf (s .args .f) (s .pre .1) ⊞ lit (pos 108000000)
-
-  days-up : pos 0 ≤ℤ val days
-  days-up = by≤ (# 0) (⟨ s .args .day ⟩ ⊝ # 41317) (omega (arith, s .pre .0 .p-lo, s .pre .0 .n-lo))
-
-  us-up : pos 0 ≤ℤ val us
-  us-up = by≤ (# 0) (⟨ s .args .f ⟩ ⊕ # 108000000) (omega (arith, s .pre .1 .n-lo))
-
-  days-is : pos (natAbs (toZ w64 (ofZ w64 (raw days)))) ≡ s .args .day -ℤ pos 41317
-  days-is = cast-is days tt days-up
-
-  us-is : pos (natAbs (toZ w64 (ofZ w64 (raw us)))) ≡ s .args .f +ℤ pos 108000000
-  us-is = cast-is us tt us-up
-
-  few-days : natAbs (toZ w64 (ofZ w64 (raw days))) ≤ 28489
-  few-days = days-at-most (s .args .day) (natAbs (toZ w64 (ofZ w64 (raw days)))) (s .pre .0) days-is
-
-  few-us : natAbs (toZ w64 (ofZ w64 (raw us))) ≤ 86608000000
-  few-us = us-at-most (s .args .f) (natAbs (toZ w64 (ofZ w64 (raw us)))) (s .pre .1) us-is
 
 module _ (c : tie.After-whole-ms) where
   -- what `whole_ms` gave
@@ -53,34 +42,17 @@ module _ (c : tie.After-whole-ms) where
   abbrev ms : M
   ms = leaf (c .whole-ms .result) in-range ⊞ lit (pos 108000)
 
-  ms-up : pos 0 ≤ℤ val ms
-  ms-up = by≤ (# 0) (⟨ c .whole-ms .result ⟩ ⊕ # 108000) (omega (arith, in-range .n-lo))
-
-  few-ms : natAbs (toZ w64 (ofZ w64 (raw ms))) ≤ 86608000
-  few-ms = ms-at-most (c .whole-ms .result) (natAbs (toZ w64 (ofZ w64 (raw ms)))) in-range (cast-is ms tt ms-up)
-
-returns : tie.Need-returns
-returns c =
-    let s = c .before in
-    sum-is (s .args .day) (s .args .f)
-    (natAbs (toZ w64 (ofZ w64 (raw (days s)))))
-    (natAbs (toZ w64 (ofZ w64 (raw (us s)))))
-    (natAbs (toZ w64 (ofZ w64 (raw (ms c)))))
-    (days-is s)
-    (us-is s)
-    (cast-is (ms c) tt (ms-up c) ∙ ap (λ (z : ℤ). z +ℤ pos 108000) (fm c))
-
 sub-days : tie.Need-sub-days
 sub-days c = ok (days c) tt
 
 cast-days : tie.Need-cast-days
-cast-days c = cast-ok (days c) tt (days-up c)
+cast-days c = cast-ok (days c) tt (by≤ (# 0) (read (days c)) (omega (arith, c .pre .0 .p-lo, c .pre .0 .n-lo)))
 
 add-us : tie.Need-add-us
 add-us c = ok (us c) tt
 
 cast-us : tie.Need-cast-us
-cast-us c = cast-ok (us c) tt (us-up c)
+cast-us c = cast-ok (us c) tt (by≤ (# 0) (read (us c)) (omega (arith, c .pre .1 .n-lo)))
 
 whole-ms-requires : tie.Need-whole-ms-requires
 whole-ms-requires c κs = rw (back (c .fits .f)) (c .pre .1)
@@ -89,7 +61,36 @@ add-ms : tie.Need-add-ms
 add-ms c = ok (ms c) tt
 
 cast-ms : tie.Need-cast-ms
-cast-ms c = cast-ok (ms c) tt (ms-up c)
+cast-ms c = cast-ok (ms c) tt (by≤ (# 0) (read (ms c)) (omega (arith, in-range c .n-lo)))
+
+-- ---- the numbers that it adds
+module _ (s : tie.Start) where
+  days-is : pos (cast (days s)) ≡ s .args .day -ℤ first
+  days-is = cast-gives (days s) tt (cast-days s .0)
+
+  -- there are 28,489 at most; so much is enough
+  few-days : cast (days s) ≤ 30000
+  few-days = omega (arith, s .pre .0 .p-hi, of≡ (# (cast (days s))) (read (days s)) days-is)
+
+  -- the start and the days since are the rule's part of the day, and some turns
+  days-give : pos (start + 273781191135448 * cast (days s)) ≡ ev (day-part (s .args .day) turns)
+  days-give =
+      by≡ (# (start + 273781191135448 * cast (days s))) (day-part (s .args .day) turns)
+      (omega (arith, of≡ (# (cast (days s))) (read (days s)) days-is))
+
+  few-us : cast (us s) ≤ 86708000000
+  few-us = cast-bnd (us s) tt
+
+few-ms : (c : tie.After-whole-ms) → cast (ms c) ≤ 86708000
+few-ms c = cast-bnd (ms c) tt
+
+returns : tie.Need-returns
+returns c =
+    let s = c .before in
+    sum-is (s .args .day) (s .args .f) (start + 273781191135448 * cast (days s)) turns (cast (us s)) (cast (ms c))
+    (days-give s)
+    (cast-gives (us s) tt (cast-us s .0))
+    (cast-gives (ms c) tt (cast-ms c .0) ∙ ap (λ (z : ℤ). z +ℤ pos 108000) (fm c))
 
 mul-sum : tie.Need-mul-sum
 mul-sum c = omega (arith, few-days (c .before))

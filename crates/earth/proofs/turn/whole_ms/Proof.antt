@@ -6,7 +6,7 @@ use lib.Signed.{_≤ℤ_}
 use Rattle.whole.specs.Whole.{floorZ}
 use Rattle.whole.proofs.Quote.{⟨_⟩, #, _⊕_, _⊗_, ⊖, by≡, by≤}
 use Rattle.whole.proofs.Machine.{M, lit, _⊞_, _⊟_, _⊘_, val, ok, ok÷, is}
-use Rattle.earth.proofs.Floors.{leaf, quot-floor, floor-more}
+use Rattle.earth.proofs.Floors.{leaf, read, quot-floor, floor-more}
 use Rattle.earth.proofs.turn.whole_ms.Statement.{statement}
 use Rattle.earth.proofs.turn.whole_ms.Tie as tie
 
@@ -18,17 +18,17 @@ module _ (s : tie.Start) where
   ms = us ⊘ lit (pos 1000) ⊟ lit (pos 100000)
 
   up : pos 0 ≤ℤ val us
-  up = by≤ (# 0) (⟨ s .args .f ⟩ ⊕ # 100000000) (omega (arith, s .pre .n-lo))
+  up = by≤ (# 0) (read us) (omega (arith, s .pre .n-lo))
 
-back : (f : ℤ) → f +ℤ pos 100000000 +ℤ negℤ (pos 100000) *ℤ pos 1000 ≡ f
-back f = by≡ (⟨ f ⟩ ⊕ # 100000000 ⊕ ⊖ (# 100000) ⊗ # 1000) ⟨ f ⟩ (omega arith)
+  back : val us +ℤ negℤ (pos 100000) *ℤ pos 1000 ≡ s .args .f
+  back = by≡ (read us ⊕ ⊖ (# 100000) ⊗ # 1000) ⟨ s .args .f ⟩ (omega arith)
 
 returns : tie.Need-returns
 returns c =
     is (ms c) tt
     ∙ ap (λ (z : ℤ). z -ℤ pos 100000) (quot-floor (val (us c)) 1000 (up c))
     ∙ sym (floor-more (val (us c)) (negℤ (pos 100000)) 1000 (omega arith))
-    ∙ ap (λ (z : ℤ). floorZ z 1000) (back (c .args .f))
+    ∙ ap (λ (z : ℤ). floorZ z 1000) (back c)
 
 add-result : tie.Need-add-result
 add-result c = ok (us c) tt

@@ -3,14 +3,12 @@ use mathlib.Core.Path.{ap, _∙_}
 use native.Mathlib.Omega.{arith}
 use lib.IntN.{ℤ, pos, _+ℤ_}
 use lib.Signed.{_≤ℤ_}
-use Rattle.whole.proofs.Quote.{⟨_⟩, #, _⊕_, by≤}
+use Rattle.whole.proofs.Quote.{#, by≤}
 use Rattle.whole.proofs.Machine.{M, lit, _⊞_, _⊘_, val, ok, ok÷, is}
 use Rattle.earth.specs.Epoch.{laterOf}
-use Rattle.earth.proofs.Floors.{leaf, quot-floor, rest-is}
+use Rattle.earth.proofs.Floors.{leaf, read, quot-floor, rest-is}
 use Rattle.earth.proofs.time.Epoch.later.Statement.{statement}
 use Rattle.earth.proofs.time.Epoch.later.Tie as tie
-use Rattle.earth.proofs.time.Epoch.later.Reads as reads
-use Rattle.earth.proofs.time.Epoch.later.Lts as lts
 
 module _ (s : tie.Start) where
   abbrev t : M
@@ -20,7 +18,7 @@ module _ (s : tie.Start) where
   day = leaf (s .args .self .day) (s .pre .0) ⊞ t ⊘ lit (pos 86400000)
 
   up : pos 0 ≤ℤ val t
-  up = by≤ (# 0) (⟨ s .args .self .ms ⟩ ⊕ ⟨ s .args .add ⟩) (omega (arith, s .pre .1 .n-lo, s .pre .2 .n-lo))
+  up = by≤ (# 0) (read t) (omega (arith, s .pre .1 .n-lo, s .pre .2 .n-lo))
 
 returns : tie.Need-returns
 unfolding laterOf

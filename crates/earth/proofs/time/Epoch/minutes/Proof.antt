@@ -7,7 +7,7 @@ use Rattle.whole.specs.Whole.{floorZ}
 use Rattle.whole.proofs.Quote.{⟨_⟩, #, _⊕_, _⊝_, _⊗_, ⊖, by≡, by≤}
 use Rattle.whole.proofs.Machine.{M, lit, _⊞_, _⊟_, _⊠_, _⊘_, val, ok, ok÷, is}
 use Rattle.earth.specs.Minutes.{minutesOf}
-use Rattle.earth.proofs.Floors.{leaf, quot-floor, floor-more}
+use Rattle.earth.proofs.Floors.{leaf, read, quot-floor, floor-more}
 use Rattle.earth.proofs.time.Epoch.minutes.Statement.{statement}
 use Rattle.earth.proofs.time.Epoch.minutes.Tie as tie
 
@@ -29,16 +29,14 @@ module _ (s : tie.Start) where
   n = t ⊘ lit (pos 60000) ⊟ lit (pos 14727600)
 
   up : pos 0 ≤ℤ val t
-  up =
-      by≤ (# 0) ((⟨ s .args .self .day ⟩ ⊝ # 41317) ⊗ # 86400000 ⊕ ⟨ s .args .self .ms ⟩ ⊕ # 32184 ⊕ # 1000 ⊗ ⟨ s .args .tai ⟩)
-      (omega (arith, s .pre .0 .p-lo, s .pre .0 .n-lo, s .pre .1 .n-lo, s .pre .2 .n-lo))
+  up = by≤ (# 0) (read t) (omega (arith, s .pre .0 .p-lo, s .pre .0 .n-lo, s .pre .1 .n-lo, s .pre .2 .n-lo))
 
--- the same count from J2000, which is a whole number of minutes later
-from-j2000 : (d u L : ℤ) → (d -ℤ pos 41317) *ℤ pos 86400000 +ℤ u +ℤ pos 32184 +ℤ pos 1000 *ℤ L +ℤ negℤ (pos 14727600) *ℤ pos 60000 ≡ (d -ℤ pos 51544) *ℤ pos 86400000 -ℤ pos 43200000 +ℤ u +ℤ pos 32184 +ℤ pos 1000 *ℤ L
-from-j2000 d u L =
-    by≡ ((⟨ d ⟩ ⊝ # 41317) ⊗ # 86400000 ⊕ ⟨ u ⟩ ⊕ # 32184 ⊕ # 1000 ⊗ ⟨ L ⟩ ⊕ ⊖ (# 14727600) ⊗ # 60000)
-    ((⟨ d ⟩ ⊝ # 51544) ⊗ # 86400000 ⊝ # 43200000 ⊕ ⟨ u ⟩ ⊕ # 32184 ⊕ # 1000 ⊗ ⟨ L ⟩)
-    (omega arith)
+  -- the same count from J2000, which is a whole number of minutes later
+  from-j2000 : val t +ℤ negℤ (pos 14727600) *ℤ pos 60000 ≡ (s .args .self .day -ℤ pos 51544) *ℤ pos 86400000 -ℤ pos 43200000 +ℤ s .args .self .ms +ℤ pos 32184 +ℤ pos 1000 *ℤ s .args .tai
+  from-j2000 =
+      by≡ (read t ⊕ ⊖ (# 14727600) ⊗ # 60000)
+      ((⟨ s .args .self .day ⟩ ⊝ # 51544) ⊗ # 86400000 ⊝ # 43200000 ⊕ ⟨ s .args .self .ms ⟩ ⊕ # 32184 ⊕ # 1000 ⊗ ⟨ s .args .tai ⟩)
+      (omega arith)
 
 returns : tie.Need-returns
 unfolding minutesOf
@@ -47,7 +45,7 @@ returns c =
     is (n s) tt
     ∙ ap (λ (z : ℤ). z -ℤ pos 14727600) (quot-floor (val (t s)) 60000 (up s))
     ∙ sym (floor-more (val (t s)) (negℤ (pos 14727600)) 60000 (omega arith))
-    ∙ ap (λ (z : ℤ). floorZ z 60000) (from-j2000 (s .args .self .day) (s .args .self .ms) (s .args .tai))
+    ∙ ap (λ (z : ℤ). floorZ z 60000) (from-j2000 s)
 
 sub-result : tie.Need-sub-result
 sub-result c = ok (days (c .before .before)) tt
