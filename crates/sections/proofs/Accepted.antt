@@ -5,11 +5,10 @@ use native.Mathlib.Omega.{arith}
 use native.Mathlib.Decide.{decLt}
 use mathlib.Core.Bool.{Bool, true, false, cond}
 use mathlib.Core.List.{List}
-use borrow.Author.Tests.{lt-ltb, le-ltb, ne-eqb}
+use borrow.Author.Tests.{lt-ltb, le-ltb}
 use Rattle.whole.specs.Each.{allBelow, firstNot}
 use Rattle.sections.specs.Layouts.{rising, consecutive}
 use Rattle.sections.specs.File.{kindRight, offsetRight, countRight, lengthRight, contentsRight, sectionRight, rangesRight, orderRight, idsRight, daysRight, refusalOf}
-use Rattle.sections.specs.Code.{testPassed, firstFailed}
 use Rattle.sections.specs.Table.{entryRight, wordRight, wrongWord}
 use Rattle.whole.proofs.Tests.{and-yes}
 use Rattle.whole.proofs.Each.{below-each, below-all, all-none, none-all, first-most, some-first, all-past}
@@ -104,22 +103,6 @@ module _ (s : List ℕ) where
         pub is-none : 4 ≤ firstNot 4 (orderRight s consecutive) → refusalOf s ≡ 0
         unfolding refusalOf rangesRight
         is-none h = rw (a, all-past 4 (sectionRight s) b, all-past 4 (orderRight s rising) d, all-past 4 (orderRight s consecutive) h)
-
--- ---- the tests in the order of their numbers
-
-pub test-ranges : (s : List ℕ) (n : ℕ) → n ≡ 2 → testPassed s n ≡ rangesRight s
-test-ranges s n e = rw e
-
-pub test-ids : (s : List ℕ) (n : ℕ) → n ≡ 3 → testPassed s n ≡ idsRight s
-test-ids s n e = rw e
-
-pub test-days : (s : List ℕ) (n : ℕ) → (n ≡ 2 → ⊥) → (n ≡ 3 → ⊥) → testPassed s n ≡ daysRight s
-test-days s n h k = rw (ne-eqb n 2 h, ne-eqb n 3 k)
-
--- the lowest number that applies is that of the first test that fails
-pub is-first : (s : List ℕ) → contentsRight s ≡ true → refusalOf s ≡ firstFailed s 2 3 4
-unfolding refusalOf
-is-first s a = rw a
 
 -- the number by the four tests
 abbrev pub byTests : Bool → Bool → Bool → Bool → ℕ

@@ -1,16 +1,15 @@
 -- What the code holds and what its inner functions give, said of bytes and plain numbers; laws show it to be what the file's definitions say.
 use Prim.Native.Nat.{ℕ, _+_, _*_}
-use mathlib.Core.Bool.{Bool, not, cond}
+use mathlib.Core.Bool.{Bool, not}
 use mathlib.Core.List.{List, _++_, map}
 use lib.ListN.{length, getD, take, replicate}
 use lib.IntN.{ℤ, pos}
-use lib.Dec.{eqb}
 use Rattle.whole.specs.Each.{allBelow}
 use Rattle.whole.specs.Ranges.{within}
 use Rattle.sections.specs.Words.{numberAt}
 use Rattle.sections.specs.declared.layouts.Shape.{Shape}
 use Rattle.sections.specs.Layouts.{Range, Layout}
-use Rattle.sections.specs.File.{steps, eqZ, rangesRight, idsRight, daysRight}
+use Rattle.sections.specs.File.{steps, eqZ}
 
 -- ---- a layout as the code holds it
 
@@ -46,13 +45,3 @@ stepBy s at size o i = steps o (numberAt s (at + 8 * (size * i))) (numberAt s (a
 -- the first number of record i is another than z
 abbrev pub otherBy : List ℕ → ℕ → ℕ → ℤ → ℕ → Bool
 otherBy s at size z i = not (eqZ (numberAt s (at + 8 * (size * i))) z)
-
--- ---- the tests in their order
-
--- the test behind refusal n of a file whose contents table is right: 2 ranges, 3 ids, 4 days
-abbrev pub testPassed : List ℕ → ℕ → Bool
-testPassed s n = cond (eqb n 2) (rangesRight s) (cond (eqb n 3) (idsRight s) (daysRight s))
-
--- of the tests behind the refusals a, b and c, made in this order, the first that fails, or 0
-abbrev pub firstFailed : List ℕ → ℕ → ℕ → ℕ → ℕ
-firstFailed s a b c = cond (testPassed s a) (cond (testPassed s b) (cond (testPassed s c) 0 c) b) a

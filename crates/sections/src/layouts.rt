@@ -14,15 +14,13 @@ pub struct Shape {
     pub high: [i64; 8],
 }
 
-const MOST_STATIONS: usize = 64;
-
 fn station() -> Shape
     ensures { λ r. ⌜ r ≡ shapeOf station ⌝ }
 {
     Shape {
         size: 4,
         fewest: 1,
-        most: MOST_STATIONS,
+        most: 64,
         order: 1,
         low: [1, -6400000000, -6400000000, -6400000000, 0, 0, 0, 0],
         high: [65535, 6400000000, 6400000000, 6400000000, 0, 0, 0, 0],

@@ -31,10 +31,10 @@ pub fn first_outside(s: &[u8], at: usize, size: usize, low: &[i64; 8], high: &[i
         }
         k += 1;
     }
-    k
+    size
 }
 
-// The first of n records, one at least, of size numbers from byte at on with a number out of its range, or n.
+// The first of n records of size numbers from byte at on with a number out of its range, or n.
 fn first_record(
     s: &[u8],
     at: usize,
@@ -43,12 +43,11 @@ fn first_record(
     low: &[i64; 8],
     high: &[i64; 8],
 ) -> usize
-    requires { ⌜ (at + 8 * (size * n) ≤ length (now s)) × (size ≤ 8) × (0 < n) ⌝ }
+    requires { ⌜ (at + 8 * (size * n) ≤ length (now s)) × (size ≤ 8) ⌝ }
     ensures { λ r. ⌜ r ≡ firstNot n (recordBy (now (s .entry)) at size (now (low .entry)) (now (high .entry))) ⌝ }
 {
-    let last = n - 1;
     let mut i: usize = 0;
-    while i <= last {
+    while i < n {
         if first_outside(s, at + 8 * (size * i), size, low, high) < size {
             return i;
         }

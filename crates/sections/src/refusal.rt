@@ -1,49 +1,16 @@
 // The refusal number of a file, the lowest that applies, and what the accepted file's places hold.
 ghost use mathlib.Core.Path.{_≡_};
-ghost use mathlib.Core.Bool.{true};
 ghost use Prim.Native.Nat.{_+_, _*_, _<_, _≤_};
 ghost use lib.ListN.{length};
 ghost use lib.IntN.{pos};
 ghost use Rattle.sections.specs.Words.{numberAt};
-ghost use Rattle.sections.specs.File.{contentsRight, refusalOf, countOf, sizeOf, recordByte};
-ghost use Rattle.sections.specs.Code.{testPassed, firstFailed};
+ghost use Rattle.sections.specs.File.{refusalOf, countOf, sizeOf, recordByte};
 use crate::contents::layout_of;
 use crate::contents::wrong_word;
 use crate::order::wrong_order;
 use crate::ranges::wrong_section;
 use crate::words::number_at;
 use crate::words::word_at;
-
-// Whether the file passes the test behind refusal n: 2 ranges, 3 ids, 4 days.
-fn test_passed(s: &[u8], n: usize) -> bool
-    requires { ⌜ contentsRight (now s) ≡ true ⌝ }
-    ensures { λ r. ⌜ r ≡ testPassed (now (s .entry)) n ⌝ }
-{
-    if n == 2 {
-        return wrong_section(s) == 4;
-    }
-    if n == 3 {
-        return wrong_order(s, 1) == 4;
-    }
-    wrong_order(s, 2) == 4
-}
-
-// Of the tests behind the refusals a, b and c, made in this order, the first that fails, or 0.
-fn first_failed(s: &[u8], a: usize, b: usize, c: usize) -> usize
-    requires { ⌜ contentsRight (now s) ≡ true ⌝ }
-    ensures { λ r. ⌜ r ≡ firstFailed (now (s .entry)) a b c ⌝ }
-{
-    if !test_passed(s, a) {
-        return a;
-    }
-    if !test_passed(s, b) {
-        return b;
-    }
-    if !test_passed(s, c) {
-        return c;
-    }
-    0
-}
 
 // The lowest number that applies; 0 where the file is accepted.
 pub fn refusal_of(s: &[u8]) -> usize
@@ -52,7 +19,16 @@ pub fn refusal_of(s: &[u8]) -> usize
     if wrong_word(s) < 14 {
         return 1;
     }
-    first_failed(s, 2, 3, 4)
+    if wrong_section(s) < 4 {
+        return 2;
+    }
+    if wrong_order(s, 1) < 4 {
+        return 3;
+    }
+    if wrong_order(s, 2) < 4 {
+        return 4;
+    }
+    0
 }
 
 // A number of the code, as an answer holds it.

@@ -19,7 +19,6 @@ use sections::refusal::record_byte;
 use sections::refusal::refusal_of;
 use sections::words::number_at;
 use sections::words::word_at;
-use whole::sign::in_range;
 
 pub fn station_of(s: &[u8], i: usize) -> Station
     requires { ⌜ (refusalOf (now s) ≡ 0) × (i < countOf (now s) 0) ⌝ }
@@ -163,8 +162,7 @@ fn number_is(s: &[u8], at: usize, z: i64) -> bool
     requires { ⌜ at + 8 ≤ length (now s) ⌝ }
     ensures { λ r. ⌜ r ≡ eqZ (numberAt (now (s .entry)) at) z ⌝ }
 {
-    let a = number_at(s, at);
-    in_range(z, a, a)
+    number_at(s, at) == z
 }
 
 // The first of n records of size numbers from byte at on whose first number is z, or n.
@@ -179,7 +177,7 @@ fn first_with(s: &[u8], at: usize, n: usize, size: usize, z: i64) -> usize
         }
         i += 1;
     }
-    i
+    n
 }
 
 // The first record of place p whose first field is z, or the number of its records.

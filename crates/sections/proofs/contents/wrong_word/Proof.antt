@@ -75,7 +75,7 @@ returns-4 : tie.Need-returns-4 Inv-loop μ-loop
 returns-4 c =
     let l = c .before .before .before in
     let e : l .loop .p ≡ 4 = omega arith in
-    sym (wrong-none _ (rw e at (l .loop .inv .3)) (passed (c .before .length-right .ensures) (c .if3 .left)))
+    omega (arith, wrong-none _ (rw e at (l .loop .inv .3)) (passed (c .before .length-right .ensures) (c .if3 .left)))
 
 pub wrong-word-spec : {M : Type 1} → statement M
 wrong-word-spec =

@@ -42,7 +42,7 @@ loop-again c =
 returns-2 : tie.Need-returns-2 Inv-loop μ-loop
 returns-2 c =
     let e : c .before .loop .i ≡ c .before .before .before .args .n = omega arith in
-    rw e (sym (rw e at (c .before .loop .inv .1)))
+    sym (rw e at (c .before .loop .inv .1))
 
 pub first-step-spec : {M : Type 1} → statement M
 first-step-spec =

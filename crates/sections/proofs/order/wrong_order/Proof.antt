@@ -40,7 +40,7 @@ loop-again c =
 returns-2 : tie.Need-returns-2 Inv-loop μ-loop
 returns-2 c =
     let e : c .before .loop .p ≡ 4 = omega arith in
-    rw e (sym (rw e at (c .before .loop .inv .1)))
+    sym (rw e at (c .before .loop .inv .1))
 
 pub wrong-order-spec : {M : Type 1} → statement M
 wrong-order-spec =

@@ -40,7 +40,7 @@ loop-again c =
 returns-2 : tie.Need-returns-2 Inv-loop μ-loop
 returns-2 c =
     let e : c .before .loop .k ≡ c .before .before .before .args .size = omega arith in
-    rw e (sym (rw e at (c .before .loop .inv .1)))
+    sym (rw e at (c .before .loop .inv .1))
 
 pub first-outside-spec : {M : Type 1} → statement M
 first-outside-spec =

@@ -10,13 +10,10 @@ use Rattle.sections.proofs.ranges.first_record.Statement.{statement}
 use Rattle.sections.proofs.ranges.first_record.Tie as tie
 
 abbrev Inv-loop : tie.InvT-loop
-Inv-loop s at n size low high last i₀ i = (i ≤ n) × (firstNot i (recordBy s at size low high) ≡ i)
+Inv-loop s at n size low high i₀ i = (i ≤ n) × (firstNot i (recordBy s at size low high) ≡ i)
 
 abbrev μ-loop : tie.MeasureT-loop
-μ-loop s at n size low high last i₀ i = n - i
-
-sub-last : tie.Need-sub-last Inv-loop μ-loop
-sub-last c = search needs
+μ-loop s at n size low high i₀ i = n - i
 
 loop-holds : tie.Need-loop-holds Inv-loop μ-loop
 loop-holds c = (search needs, first-zero _)
@@ -75,7 +72,6 @@ first-record-spec =
     (tie.spec
     Inv-loop
     μ-loop
-    sub-last
     loop-holds
     mul-first-outside
     mul-first-outside-2

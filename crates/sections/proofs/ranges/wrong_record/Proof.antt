@@ -5,7 +5,7 @@ use mathlib.Core.Path.{_≡_, ap, _∙_}
 use native.Mathlib.Omega.{arith}
 use Rattle.sections.specs.File.{sizeOf, countOf}
 use Rattle.sections.specs.declared.layouts.Shape.{Shape}
-use Rattle.sections.proofs.Sound.{table-long, counts-one, body-fits, size-most, records-same}
+use Rattle.sections.proofs.Sound.{table-long, body-fits, size-most, records-same}
 use borrow.Author.Needs.{needs}
 use Rattle.sections.proofs.ranges.wrong_record.Statement.{statement}
 use Rattle.sections.proofs.ranges.wrong_record.Tie as tie
@@ -42,7 +42,7 @@ unfolding shapeOf
 first-record-requires c κs =
     let st = c .before .before .before .before .before .before .before .before in
     let z : c .before .before .before .before .before .before .layout-of .result .size ≡ sizeOf (st .args .s .now) (st .args .p) = ap (λ (l : Shape). l .size) (c .before .before .before .before .before .before .layout-of .ensures) in
-    rw (z, c .before .before .before .word-at .ensures, c .before .before .word-at2 .ensures) (body-fits _ (st .pre .0) _ (st .pre .1), size-most _ (st .pre .0) _ (st .pre .1), counts-one _ (st .pre .0) _ (st .pre .1))
+    rw (z, c .before .before .before .word-at .ensures, c .before .before .word-at2 .ensures) (body-fits _ (st .pre .0) _ (st .pre .1), size-most _ (st .pre .0) _ (st .pre .1))
 
 returns : tie.Need-returns
 unfolding shapeOf

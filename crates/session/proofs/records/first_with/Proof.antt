@@ -56,7 +56,7 @@ returns-2 : tie.Need-returns-2 Inv-loop μ-loop
 returns-2 c =
     let e : c .before .loop .i ≡ c .before .before .before .args .n = omega arith in
     let f = toZ-ofZ (c .before .before .before .fits .z) in
-    rw e (rw (f, e) at (sym (c .before .loop .inv .1)))
+    rw (f, e) at (sym (c .before .loop .inv .1))
 
 pub first-with-spec : {M : Type 1} → statement M
 first-with-spec =
