@@ -1,5 +1,5 @@
 -- The fault is where it says: it gives `check`'s number, the place that it names is wrong, and all before it is right. Assumes nothing.
-use mathlib.Core.Path.{_≡_, refl, sym, ap, _∙_}
+use mathlib.Core.Path.{_≡_, refl, sym, ap, ap₂, _∙_}
 use Prim.Native.Nat.{ℕ, zero, suc, _-_, _≤_, _<_}
 use native.Mathlib.Omega.{arith}
 use native.Mathlib.Decide.{ℕ-discrete}
@@ -11,6 +11,7 @@ use lib.Dec.{eqb}
 use Rattle.sections.specs.Layouts.{rising, consecutive}
 use Rattle.sections.specs.File.{sectionRight, recordRight, fieldRight, orderRight, stepRight, countOf, sizeOf, refusalOf, contentsRight, rangesRight, idsRight, daysRight, layoutOf, lengthRight}
 use Rattle.session.specs.declared.Counts.{Counts}
+use Rattle.session.specs.declared.Place.{Place}
 use Rattle.session.specs.Records.{checkOf}
 use Rattle.sections.specs.Table.{wordRight, wrongWord}
 use Rattle.sections.proofs.Accepted.{byTests, refusal-most}
@@ -42,6 +43,13 @@ module _ (s : List ℕ) where
   pub fault-days : refusalOf s ≡ 4 → faultOf s ≡ orderFault s (firstNot 4 (orderRight s consecutive)) consecutive 4
   unfolding faultOf faultBy
   fault-days h = rw h
+
+  -- as the code finds them: place q, and the number n that is the file's own
+  pub ids-named : {r : Place} {q n : ℕ} → r ≡ orderFault s q rising n → q ≡ firstNot 4 (orderRight s rising) → refusalOf s ≡ 3 → n ≡ refusalOf s → r ≡ faultOf s
+  ids-named a b h e = a ∙ ap₂ (λ (x y : ℕ). orderFault s x rising y) b (e ∙ h) ∙ sym (fault-ids h)
+
+  pub days-named : {r : Place} {q n : ℕ} → r ≡ orderFault s q consecutive n → q ≡ firstNot 4 (orderRight s consecutive) → refusalOf s ≡ 4 → n ≡ refusalOf s → r ≡ faultOf s
+  days-named a b h e = a ∙ ap₂ (λ (x y : ℕ). orderFault s x consecutive y) b (e ∙ h) ∙ sym (fault-days h)
 
 -- a place with a field out of its range has a record with one
 pub section-wrong : (s : List ℕ) → firstNot 4 (sectionRight s) < 4 → firstNot (countOf s (firstNot 4 (sectionRight s))) (recordRight s (firstNot 4 (sectionRight s))) < countOf s (firstNot 4 (sectionRight s))

@@ -1,12 +1,12 @@
 use mathlib.Core.Path.{sym, ap, _∙_}
 use native.Mathlib.Omega.{arith}
-use Prim.Native.Nat.{ℕ, _<_}
+use Prim.Native.Nat.{_<_}
 use lib.IntN.{pos}
 use Rattle.sections.specs.Table.{wrongWord}
-use Rattle.session.specs.Fault.{rangeFault, orderFault}
+use Rattle.session.specs.Fault.{rangeFault}
 use Rattle.sections.proofs.Accepted.{contents-past, no-contents, is-one, is-two, is-three, is-four, is-none}
 use Rattle.session.proofs.Answers.{number-back}
-use Rattle.session.proofs.Blame.{fault-none, fault-word, fault-range, fault-ids, fault-days, section-wrong}
+use Rattle.session.proofs.Blame.{fault-none, fault-word, fault-range, ids-named, days-named, section-wrong}
 use borrow.Author.Needs.{needs}
 use Rattle.session.proofs.fault.Statement.{statement}
 use Rattle.session.proofs.fault.Tie as tie
@@ -47,7 +47,8 @@ order-fault-requires c κs = ((contents-past _ _ (c .before .before .before .bef
 returns-3 : tie.Need-returns-3
 returns-3 c =
     let e = c .before .before .wrong-order .ensures in
-    c .order-fault .ensures ∙ ap (λ (p : ℕ). orderFault (c .before .before .before .before .before .before .before .before .args .file .now) p 1 3) e ∙ sym (fault-ids _ (is-three _ (contents-past _ _ (c .before .before .before .before .before .before .wrong-word .ensures) (c .before .before .before .before .before .if1 .left)) (rw (c .before .before .before .before .wrong-section .ensures) at (c .before .before .before .if2 .left)) (rw e at (c .before .if3 .taken))))
+    let h = is-three _ (contents-past _ _ (c .before .before .before .before .before .before .wrong-word .ensures) (c .before .before .before .before .before .if1 .left)) (rw (c .before .before .before .before .wrong-section .ensures) at (c .before .before .before .if2 .left)) (rw e at (c .before .if3 .taken)) in
+    ids-named _ (c .order-fault .ensures) e h (omega (arith, h))
 
 wrong-order-requires-2 : tie.Need-wrong-order-requires-2
 wrong-order-requires-2 c κs = (contents-past _ _ (c .before .before .before .before .before .wrong-word .ensures) (c .before .before .before .before .if1 .left))
@@ -58,7 +59,8 @@ order-fault-requires-2 c κs = ((contents-past _ _ (c .before .before .before .b
 returns-4 : tie.Need-returns-4
 returns-4 c =
     let e = c .before .before .wrong-order2 .ensures in
-    c .order-fault2 .ensures ∙ ap (λ (p : ℕ). orderFault (c .before .before .before .before .before .before .before .before .before .before .args .file .now) p 2 4) e ∙ sym (fault-days _ (is-four _ (contents-past _ _ (c .before .before .before .before .before .before .before .before .wrong-word .ensures) (c .before .before .before .before .before .before .before .if1 .left)) (rw (c .before .before .before .before .before .before .wrong-section .ensures) at (c .before .before .before .before .before .if2 .left)) (rw (c .before .before .before .before .wrong-order .ensures) at (c .before .before .before .if3 .left)) (rw e at (c .before .if4 .taken))))
+    let h = is-four _ (contents-past _ _ (c .before .before .before .before .before .before .before .before .wrong-word .ensures) (c .before .before .before .before .before .before .before .if1 .left)) (rw (c .before .before .before .before .before .before .wrong-section .ensures) at (c .before .before .before .before .before .if2 .left)) (rw (c .before .before .before .before .wrong-order .ensures) at (c .before .before .before .if3 .left)) (rw e at (c .before .if4 .taken)) in
+    days-named _ (c .order-fault2 .ensures) e h (omega (arith, h))
 
 returns-5 : tie.Need-returns-5
 returns-5 c = sym (fault-none _ (is-none _ (contents-past _ _ (c .before .before .before .before .before .before .before .wrong-word .ensures) (c .before .before .before .before .before .before .if1 .left)) (rw (c .before .before .before .before .before .wrong-section .ensures) at (c .before .before .before .before .if2 .left)) (rw (c .before .before .before .wrong-order .ensures) at (c .before .before .if3 .left)) (rw (c .before .wrong-order2 .ensures) at (c .if4 .left))))
