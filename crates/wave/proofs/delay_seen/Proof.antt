@@ -1,5 +1,5 @@
 -- `wave::delay_seen` meets its contract.
-use mathlib.Core.Path.{_≡_, sym, ap, _∙_}
+use mathlib.Core.Path.{_≡_, sym, _∙_}
 use Prim.Native.Nat.{ℕ, _+_, _/_, _%_, _^_, _<_}
 use borrow.Author.Needs.{needs}
 use native.Mathlib.Omega.{arith}
@@ -11,7 +11,7 @@ use Rattle.whole.proofs.Machine.{var, is}
 use Rattle.whole.proofs.Quote.{#, _⊕_, _⊝_, _⊗_, ⊖, by≡}
 use Rattle.whole.proofs.Rounding.{mod-unique}
 use Rattle.wave.specs.Keeping.{delaySeen}
-use Rattle.wave.specs.PlaneWave.{shiftedOf, hourAngle, waveOf}
+use Rattle.wave.specs.PlaneWave.{hourAngle}
 use Rattle.wave.proofs.delay_seen.Statement.{statement}
 use Rattle.wave.proofs.delay_seen.Tie as tie
 
@@ -44,12 +44,8 @@ returns c =
     let w = c .before .before .before in
     let a = w .before in
     let s = a .before in
-    let v = s .args .v in
-    let e = s .args .e in
-    let h = wrapped (w .wrapping-sub-u32 .result) (a .angle-for .result) (v .«right_ascension») (w .wrapping-sub-u32 .ok) (w .wrapping-sub-u32 .ensures) in
-    ret (c .delay-at .result) (c .delay-at .ok)
-    ∙ simp (x-back s, y-back s) at (c .delay-at .ensures)
-    ∙ ap (λ (n : ℕ). waveOf (shiftedOf (v .baseline) (e .x) (e .y)) n (v .declination)) (h ∙ ap (λ (n : ℕ). hourAngle n (v .«right_ascension»)) (a .angle-for .ensures))
+    let h = wrapped (w .wrapping-sub-u32 .result) (a .angle-for .result) (s .args .v .«right_ascension») (w .wrapping-sub-u32 .ok) (w .wrapping-sub-u32 .ensures) in
+    ret (c .delay-at .result) (c .delay-at .ok) ∙ simp (x-back s, y-back s, h, a .angle-for .ensures) at (c .delay-at .ensures)
 
 pub delay-seen-spec : {M : Type 1} → statement M
 delay-seen-spec = tie.close (tie.spec angle-for-requires wrapping-sub-u32-requires delay-at-requires returns)

@@ -28,14 +28,14 @@ module _ (c : tie.After-leap) where
   abbrev start : tie.Start
   start = c .before .before .before
 
+  leap-most : ∣ c .leap .result ∣ ≤ 99000000000
+  leap-most = rw (c .leap .ensures) (leap-size (start .args .r0) (start .args .r1) (start .pre .0) (start .pre .1))
+
   abbrev v0 : M
   v0 = let k = c .before .before .ut1r in var (k .result) 902723000 (rw (k .ensures) (start .pre .0 .ut1-size))
 
   abbrev v1 : M
-  v1 =
-      let k = c .before .ut1r2 in
-      var (k .result) 902723000 (rw (k .ensures) (start .pre .1 .ut1-size))
-      ⊟ var (c .leap .result) 99000000000 (rw (c .leap .ensures) (leap-size (start .args .r0) (start .args .r1) (start .pre .0) (start .pre .1)))
+  v1 = let k = c .before .ut1r2 in var (k .result) 902723000 (rw (k .ensures) (start .pre .1 .ut1-size)) ⊟ var (c .leap .result) 99000000000 leap-most
 
 sub-v1 : tie.Need-sub-v1
 sub-v1 c = ok (v1 c) tt
