@@ -18,7 +18,7 @@ fn place_ok(at: u64, first: i64, count: i64) -> bool
     ensures { λ r. ⌜ r ≡ (leZ (pos at) first && leZ first (pos at) && leZ (pos at +ℤ count) (pos 4096)) ⌝ }
 {
     let a = at as i64;
-    if !in_range(first, a, a) {
+    if first != a {
         return false;
     }
     count <= 4096 - a
