@@ -1,5 +1,5 @@
 -- Demand 3, said of a call of `track`: of the samples, the tolerance and the room as they are lent, and of the answer and the room after the call.
-use Prim.Native.Nat.{ℕ, _*_, _/_, _≤_, _<_}
+use Prim.Native.Nat.{_*_, _/_, _≤_, _<_}
 use mathlib.Core.Path.{_≡_}
 use mathlib.Core.List.{List, _++_}
 use mathlib.Core.Logic.{_↔_}

@@ -8,6 +8,7 @@ ghost use Rattle.track.specs.Segments.{flat};
 ghost use Rattle.track.specs.Made.{trackOf, Stored};
 use fit::line::line_of;
 
+// Stores four numbers in the room, from `at` on.
 fn put(room: &mut [i64], at: usize, a: i64, b: i64, c: i64, d: i64)
     requires { do ⌜ at + 3 < (← ⟦room.len()⟧) ⌝ }
     ensures { λ _. ⌜ now (room .exit) ≡ set (set (set (set (now (room .entry)) at a) (at + 1) b) (at + 2) c) (at + 3) d ⌝ }
