@@ -212,6 +212,10 @@ R-floor (negsuc a) h l =
     (by≤ (⊖ (# n) ⊗ # b) (⟨ negsuc a ⟩ ⊕ (# h ⊝ # 1)) (omega (arith, near-hi (suc a) b (omega arith))))
     (by< (⟨ negsuc a ⟩ ⊕ (# h ⊝ # 1)) (⊖ (# n) ⊗ # b ⊕ # b) (omega (arith, near-lo (suc a) b)))
 
+pub half-above : (z h : ℤ) → pos 0 ≤ℤ z → halfFor z h ≡ h
+half-above (pos n) h l = refl
+half-above (negsuc n) h l = absurd (l .le)
+
 pub half-abs : (z : ℤ) (h : ℕ) → 0 < h → ∣ halfFor z (pos h) ∣ ≤ h
 half-abs (pos n) h l = omega arith
 half-abs (negsuc n) h l =

@@ -10,6 +10,10 @@ pub is-true : (b : Bool) → T b → b ≡ true
 is-true true h = refl
 is-true false h = absurd h
 
+pub is-false : (b : Bool) → (T b → ⊥) → b ≡ false
+is-false true h = absurd (h tt)
+is-false false h = refl
+
 -- `if !f(..)`, taken and left, where f promises its result as a test
 pub failed : {r s : Bool} → r ≡ s → not r ≡ true → s ≡ false
 failed {r} e h = sym e ∙ not-true r h

@@ -1,22 +1,23 @@
 -- `whole::divide::round_div` meets its contract.
-use mathlib.Core.Path.{_≡_, refl, _∙_}
+use mathlib.Core.Path.{_≡_, _∙_}
 use mathlib.Core.Bool.{true, false}
-use Prim.Native.Nat.{ℕ}
+use Prim.Native.Nat.{ℕ, zero, suc, _<_}
 use borrow.Author.Needs.{needs}
 use native.Mathlib.Nat.{add-zero, zero-add}
 use native.Mathlib.Omega.{arith}
 use lib.IntN.{ℤ, pos, negsuc}
-use lib.Signed.{_≤ℤ_, _<ℤ_}
+use lib.Signed.{_≤ℤ_}
 use Rattle.whole.specs.Whole.{∣_∣, near, signOf, R}
 use Rattle.whole.proofs.Linear.{zarith, known, back, ret}
-use Rattle.whole.proofs.Rounding.{near-le}
+use Rattle.whole.proofs.Rounding.{near-zero, near-le}
 use Rattle.whole.proofs.divide.round_div.Statement.{statement}
 use Rattle.whole.proofs.divide.round_div.Tie as tie
 
 -- R of a number whose sign is known
-below : (z : ℤ) (b : ℕ) → z <ℤ pos 0 → signOf true (near ∣ z ∣ b) ≡ R z b
-below (pos n) b l = absurd (omega zarith)
-below (negsuc n) b l = simp zero-add
+below : (z : ℤ) (b : ℕ) → 0 < b → z ≤ℤ pos 0 → signOf true (near ∣ z ∣ b) ≡ R z b
+below (pos zero) b h l = simp (near-zero b h)
+below (pos (suc n)) b h l = absurd (omega zarith)
+below (negsuc n) b h l = simp zero-add
 
 above : (z : ℤ) (b : ℕ) → pos 0 ≤ℤ z → signOf false (near ∣ z ∣ b) ≡ R z b
 above (pos n) b l = simp add-zero
@@ -50,7 +51,7 @@ returns c =
     let s = t .before in
     let e = simp (c .before .nearest .ensures, c .before .before .size .ensures, back (s .fits .a)) at (c .with-sign .ensures) in
     let l = rw (back (s .fits .a)) at (t .if1 .taken) in
-    ret (c .with-sign .result) (c .with-sign .ok) ∙ e ∙ below (s .args .a) (s .args .b) (omega zarith)
+    ret (c .with-sign .result) (c .with-sign .ok) ∙ e ∙ below (s .args .a) (s .args .b) (s .pre .1) (omega zarith)
 
 returns-2 : tie.Need-returns-2
 returns-2 c =
