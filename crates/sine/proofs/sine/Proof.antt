@@ -1,16 +1,25 @@
 -- `sine::sine` meets its contract. Assumes nothing.
-use mathlib.Core.Path.{sym, ap, _∙_}
-use Prim.Native.Nat.{ℕ, _/_, _^_}
-use lib.Dec.{leb}
+use mathlib.Core.Path.{ap, _∙_}
+use mathlib.Core.Bool.{Bool}
+use Prim.Native.Nat.{ℕ, _/_, _%_, _^_}
+use lib.Dec.{leb, eqb}
+use borrow.Author.Tests.{leb-true, leb-false, eqb-true, eqb-false}
 use Rattle.whole.proofs.Linear.{ret}
 use Rattle.whole.specs.Whole.{signOf}
 use Rattle.sine.specs.Sine.{S}
 use native.Mathlib.Omega.{arith}
 use Rattle.sine.proofs.Laws.{S-most}
-use Rattle.sine.proofs.Parts.{quarter-is}
+use Rattle.sine.proofs.Parts.{sine-by}
 use borrow.Author.Needs.{needs}
 use Rattle.sine.proofs.sine.Statement.{statement}
 use Rattle.sine.proofs.sine.Tie as tie
+
+-- the code's tests
+abbrev negative : ℕ → Bool
+negative a = leb 2 (a / 2 ^ 30)
+
+abbrev back : ℕ → Bool
+back a = eqb (a / 2 ^ 30 % 2) 1
 
 cast-r : tie.Need-cast-r
 cast-r c = search needs
@@ -29,8 +38,12 @@ returns c =
     let a = c .before .before .before .args .a in
     ret (c .with-sign .result) (c .with-sign .ok)
     ∙ c .with-sign .ensures
-    ∙ ap (λ (m : ℕ). signOf (leb 2 (a / 2 ^ 30)) m) (c .before .s-of .ensures ∙ ap S (c .before .before .turned .ensures .0))
-    ∙ sym (quarter-is a (omega arith))
+    ∙ ap (λ (m : ℕ). signOf (negative a) m) (c .before .s-of .ensures ∙ ap S (c .before .before .turned .ensures .0))
+    ∙ sine-by a (negative a) (back a) (omega arith)
+    (λ t. omega (arith, leb-true, t))
+    (λ t. omega (arith, leb-false, t))
+    (λ t. omega (arith, eqb-true, t))
+    (λ t. omega (arith, eqb-false, t))
 
 pub sine-spec : {M : Type 1} → statement M
 sine-spec = tie.close (tie.spec cast-r turned-requires s-of-requires with-sign-requires returns)
