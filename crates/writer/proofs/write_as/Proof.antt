@@ -1,8 +1,8 @@
+-- `write_as` by the ways in which it ends: wrong lists, a file that the reader refuses, a room too short, a file stored.
 use Prim.Native.Nat.{ℕ, _≤_, _<_}
 use mathlib.Core.Path.{_≡_, sym, ap, _∙_}
 use native.Mathlib.Omega.{arith}
 use lib.ListN.{length}
-use lib.IntN.{pos}
 use lib.Seq.{length-take-le}
 use Rattle.sections.specs.File.{refusalOf}
 use Rattle.whole.specs.Answers.{number}
