@@ -224,7 +224,7 @@ module _ (c : tie.After-delay-between) where
       ∙ ap (delayBetween (stationBy (file u) (a u)) (stationBy (file u) (b u)) (sourceBy (file u) (r u))) (earth-is v)
 
 returns-4 : tie.Need-returns-4
-returns-4 c = let k = u c in given (file k) (a k) (b k) (r k) (day k) (ms k) (zero-number (p (v c))) (simp (value-is c))
+returns-4 c = let k = u c in given (file k) (a k) (b k) (r k) (day k) (ms k) (zero-number (p (v c))) (value-is c)
 
 pub delay-spec : {M : Type 1} → statement M
 delay-spec =

@@ -133,7 +133,7 @@ returns-3 c =
     let y-back = ret (r .y) (c .struct-told .given .1 .0 .1) in
     let ut1-back = ret (r .«ut1_utc») (c .struct-told .given .1 .1 .0 .1) in
     let t : _≡_ {A = Epoch} (record { day = toZ w64 (ofZ w64 (s .args .day)); ms = toZ w64 (ofZ w64 (s .args .ms)) }) (epochOf (s .args .day) (s .args .ms)) = λ i. record { day = back (s .fits .day) i; ms = back (s .fits .ms) i } in
-    by-parts r (simp (x-back, y-back)) (simp (x-back, y-back)) ut1-back refl
+    by-parts r x-back y-back ut1-back refl
     ∙ ap earthAnswer (v .earth-in .ensures .0 ∙ ap (earthIn f) t)
     ∙ given f (s .args .day) (s .args .ms) (zero-number p)
 

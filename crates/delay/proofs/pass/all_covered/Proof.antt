@@ -72,7 +72,7 @@ covers-requires-2 : tie.Need-covers-requires-2
 covers-requires-2 c κs =
     let e = c .before .before .before .before in
     let s = start e in
-    (s .pre .0, search (mjd-small (pass s) (s .pre .1), day-small e))
+    (s .pre .0, day-small e)
 
 returns : tie.Need-returns
 returns c =
@@ -82,7 +82,7 @@ returns c =
     let f = file e in
     let first : covers f (pass s .mjd) ≡ true = sym (first-is (t .before)) ∙ t .if1 .taken in
     let all : covers f (last e) ≡ allCovered f (pass s) = ap (λ (b : Bool). b && covers f (last e)) (sym first) ∙ ends-tell f (s .pre .0) (pass s) (s .pre .1) in
-    simp (last-back e, mjd-back (pass s) (s .pre .1)) at (c .covers2 .ensures) ∙ all
+    rw (last-back e) at (c .covers2 .ensures) ∙ all
 
 returns-2 : tie.Need-returns-2
 returns-2 c =

@@ -53,7 +53,7 @@ returns c =
     let t = c .before .before in
     let d = t .before .before .before in
     let today : hasDay (file d) (day d) ≡ true = sym (first-is (t .before)) ∙ t .if1 .taken in
-    simp (c .there2 .ensures, today-told d, next-told d, today)
+    rw today (c .there2 .ensures ∙ next-told d)
 
 returns-2 : tie.Need-returns-2
 unfolding covers

@@ -49,9 +49,7 @@ returns c =
     let source = rw (back (s .fits .source)) at (k .source-by .ensures) in
     by-all f (s .args .station1) (s .args .station2) (s .args .source)
     (simp (first, second, source) at (c .all-there .ensures) ∙ all-told f (s .args .station1) (s .args .station2) (s .args .source))
-    (simp (first, second, source))
-    (simp (first, second, source))
-    (simp (first, second, source))
+    first second source
 
 pub named-by-spec : {M : Type 1} → statement M
 named-by-spec =
