@@ -43,11 +43,6 @@ sign-by true (negsuc n) neg non = simp zero-add
 sign-by false (pos n) neg non = simp add-zero
 sign-by false (negsuc n) neg non = absurd (non refl .le)
 
--- R by the sign and the size, as code that splits the sign off first has it
-pub R-split : (z : ℤ) (b : ℕ) → signOf (ltZ z (pos 0)) (near ∣ z ∣ b) ≡ R z b
-R-split (pos n) b = simp (leb·suc-zero, add-zero)
-R-split (negsuc n) b = simp zero-add
-
 -- ---- how far: |2 (z - R z b · b)| ≤ b
 pub near-lo : (a b : ℕ) → 2 * (near a b * b) ≤ 2 * a + b
 near-lo a b = omega (arith, mul-div-le (2 * a + b) (2 * b))
