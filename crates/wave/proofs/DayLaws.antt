@@ -6,7 +6,7 @@ use native.Mathlib.Omega.{arith}
 use lib.Dec.{lit≤}
 use lib.IntN.{ℤ, pos, _+ℤ_, _-ℤ_, _*ℤ_}
 use lib.Signed.{_≤ℤ_}
-use Rattle.whole.specs.Whole.{posPart, negPart, ∣_∣, R, line, floorZ}
+use Rattle.whole.specs.Whole.{posPart, negPart, ∣_∣, line, floorZ}
 use Rattle.whole.proofs.Linear.{zarith, sub-lawℤ, parts-le, abs-add, abs-sub, abs-mul≤, size-to, in-le}
 use Rattle.whole.proofs.Quote.{⟨_⟩, #, _⊕_, _⊝_, _⊗_, ⊖, by≡, by≤, of≤, of<}
 use Rattle.whole.proofs.Rounding.{R-mul, line-size, floor-lo, floor-hi}
