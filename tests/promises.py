@@ -9,7 +9,7 @@ import re
 
 from rattle import ROOT
 
-CRATES = ["sine", "earth", "session", "writer", "delay", "track", "predict", "fringe"]
+CRATES = ["sine", "earth", "session", "writer", "delay", "track", "predict", "fringe", "program"]
 CALL = re.compile(r'^pub (?:extern "C" )?fn (\w+)\([^{]*?\)(?: -> [^{]*?)?\n((?:    (?:ensures|requires) .*\n(?:        .*\n)*)*)\{', re.MULTILINE)
 
 

@@ -34,6 +34,12 @@ def tide_at_one_end(today, tomorrow, ms, tide_used=earth.tide_at):
     return RIGHT_ORIENTATION(today, (*tomorrow[:3], tomorrow[3] - tide, tomorrow[4]), ms, tide_used)
 
 
+def full_ut1(today, tomorrow, ms, tide_used=earth.tide_at):
+    """Both days' values are read as full UT1: each record's own tide is taken away before the line is drawn."""
+    less = [(*record[:3], record[3] - earth.tide_at(earth.minutes(record[0], 0, record[4])), record[4]) for record in (today, tomorrow)]
+    return RIGHT_ORIENTATION(*less, ms, tide_used)
+
+
 def next_days_tai(today, tomorrow, ms, tide_used=earth.tide_at):
     """The tide's minute is counted by the TAI-UTC of the next day's record."""
     return RIGHT_ORIENTATION(today, tomorrow, ms, lambda n: tide_used(earth.minutes(today[0], ms, tomorrow[4])))
@@ -102,6 +108,7 @@ WRONG = (
     ("sine for cosine of H", delay, "delay_of", sine_for_cosine),
     ("the tide left out", delay, "orientation_of", tide_left_out),
     ("the next day's value read as full UT1", delay, "orientation_of", tide_at_one_end),
+    ("both days' values read as full UT1", delay, "orientation_of", full_ut1),
     ("TAI-UTC of the next day", delay, "orientation_of", next_days_tai),
     ("a leap second forgotten", delay, "leap_of", lambda today, tomorrow: 0),
     ("a leap second added", delay, "leap_of", lambda today, tomorrow: -RIGHT_LEAP(today, tomorrow)),

@@ -1,10 +1,11 @@
 // The program of document 01: a session file on standard input, its tracks on standard output.
 ghost use mathlib.Core.Path.{_≡_};
 ghost use Prim.Native.Nat.{_≤_};
-ghost use lib.ListN.{length, take};
+ghost use lib.ListN.{length};
 ghost use Rattle.session.specs.Records.{checkOf};
 ghost use Rattle.lines.specs.Text.{refusedLine, lentOutcome, passText, passTexts, sessionText};
 ghost use Rattle.program.specs.Numbers.{Numbers};
+ghost use Rattle.program.specs.Promises.{RunPromise};
 
 mod explain;
 
@@ -87,7 +88,7 @@ pub struct Ran {
 // Reads a session file from standard input to the buffer, as far as it goes, and prints its tracks. The buffer has a byte more than a file may have, so
 // that a longer input is seen to be too long.
 pub fn run(buffer: &mut [u8]) -> Ran
-    ensures { λ r. ⌜ (r .bytes ≤ length (now (buffer .exit))) × (r .refusal ≡ checkOf (take (r .bytes) (now (buffer .exit))) .refusal) ⌝ }
+    ensures { λ r. ⌜ RunPromise r (now (buffer .exit)) ⌝ }
 {
     let n = io::read_full(0, buffer);
     let refusal = print_session(&buffer[..n]);
