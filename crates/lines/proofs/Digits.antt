@@ -8,12 +8,11 @@ use borrow.Author.Tests.{ltb-true, ltb-false, lt-ltb, le-ltb}
 use lib.Dec.{ltb, lit≤}
 use lib.ListN.{length, getD, length-append, List·getD-append}
 use lib.IntN.{ℤ, pos, negsuc}
-use lib.Signed.{ltZ}
 use mir.Syntax.{w64}
 use mir.Val.{SFits}
 use native.Mathlib.Nat.{add-zero, zero-add}
-use Rattle.whole.specs.Whole.{∣_∣}
-use Rattle.whole.proofs.Linear.{zarith, ltZ-true, ltZ-false, fits⇒}
+use Rattle.whole.specs.Whole.{posPart, negPart, ∣_∣}
+use Rattle.whole.proofs.Linear.{fits⇒}
 use Rattle.lines.specs.Decimal.{digitsBy, digitsOf, decimal, readFrom, read}
 
 single : (k n : ℕ) → n < 10 → digitsBy (suc k) n ≡ (48 + n) ∷ []
@@ -117,15 +116,15 @@ at-most (suc j) n h = at-most-by j n (λ (m : 10 ≤ n). at-most j (n / 10) (ome
 
 -- ---- whole numbers
 
-pub below-zero : (z : ℤ) → ltZ z (pos 0) ≡ true → decimal z ≡ 45 ∷ digitsOf ∣ z ∣
+pub below-zero : (z : ℤ) → posPart z < negPart z → decimal z ≡ 45 ∷ digitsOf ∣ z ∣
 unfolding decimal
-below-zero (pos n) e = absurd (omega (zarith, ltZ-true (pos n) (pos 0) e))
-below-zero (negsuc n) e = ap (λ (k : ℕ). 45 ∷ digitsOf k) (sym (zero-add (suc n)))
+below-zero (pos n) h = absurd (omega (arith, h))
+below-zero (negsuc n) h = ap (λ (k : ℕ). 45 ∷ digitsOf k) (sym (zero-add (suc n)))
 
-pub from-zero : (z : ℤ) → ltZ z (pos 0) ≡ false → decimal z ≡ digitsOf ∣ z ∣
+pub from-zero : (z : ℤ) → negPart z ≤ posPart z → decimal z ≡ digitsOf ∣ z ∣
 unfolding decimal
-from-zero (pos n) e = ap digitsOf (sym (add-zero n))
-from-zero (negsuc n) e = absurd (omega (zarith, ltZ-false (negsuc n) (pos 0) e))
+from-zero (pos n) h = ap digitsOf (sym (add-zero n))
+from-zero (negsuc n) h = absurd (omega (arith, h))
 
 -- the digits of a machine's number, without its sign
 pub nineteen : (z : ℤ) → SFits w64 z → length (digitsOf ∣ z ∣) ≤ 19

@@ -1,16 +1,13 @@
 -- `lines::ascii::put_decimal` meets its contract. Assumes nothing.
 use mathlib.Core.Path.{_≡_, sym, ap, subst, _∙_}
 use mathlib.Core.List.{List, _∷_}
-use Prim.Native.Nat.{ℕ, _+_, _≤_}
+use Prim.Native.Nat.{ℕ, _+_, _<_, _≤_}
 use native.Mathlib.Omega.{arith}
 use lib.ListN.{length, length-set}
-use mathlib.Core.Bool.{true, false}
-use lib.IntN.{pos}
-use lib.Signed.{ltZ}
 use mir.Syntax.{w64}
 use mir.Val.{toZ, ofZ}
-use Rattle.whole.specs.Whole.{∣_∣}
-use Rattle.whole.proofs.Linear.{back}
+use Rattle.whole.specs.Whole.{posPart, negPart, ∣_∣}
+use Rattle.whole.proofs.Linear.{back, ltZ-true, ltZ-false}
 use Rattle.lines.specs.Decimal.{digitsOf, decimal}
 use Rattle.lines.specs.Put.{Put}
 use Rattle.lines.proofs.Digits.{below-zero, from-zero, nineteen}
@@ -62,7 +59,7 @@ returns c =
     let n = c .before .before in
     let s = n .before .before .before .before .before in
     let z = n .before .size in
-    let t : ltZ (s .args .z) (pos 0) ≡ true = simp (back (s .fits .z)) at (n .before .before .before .if1 .taken) in
+    let t : posPart (s .args .z) < negPart (s .args .z) = omega (arith, ltZ-true (s .args .z) _ (simp (back (s .fits .z)) at (n .before .before .before .if1 .taken))) in
     let e : decimal (s .args .z) ≡ 45 ∷ digitsOf (z .result) = below-zero (s .args .z) t ∙ ap (λ (k : ℕ). 45 ∷ digitsOf k) (sym (sized s (z .result) (z .ensures))) in
     (subst (λ (bs : List ℕ). Put (s .args .room .now) (s .args .at) bs (n .put-natural .last .0) (n .put-natural .result)) (sym e) (signed n), inside n)
 
@@ -83,7 +80,7 @@ returns-2 c =
     let n = c .before .before in
     let s = n .before .before .before .before .before in
     let z = n .before .size2 in
-    let t : ltZ (s .args .z) (pos 0) ≡ false = simp (back (s .fits .z)) at (n .before .before .before .if1 .left) in
+    let t : negPart (s .args .z) ≤ posPart (s .args .z) = omega (arith, ltZ-false (s .args .z) _ (simp (back (s .fits .z)) at (n .before .before .before .if1 .left))) in
     let e : decimal (s .args .z) ≡ digitsOf (z .result) = from-zero (s .args .z) t ∙ ap digitsOf (sym (sized s (z .result) (z .ensures))) in
     let l = few-digits s (z .result) (z .ensures) in
     (subst (λ (bs : List ℕ). Put (s .args .room .now) (s .args .at) bs (n .put-natural2 .last .0) (n .put-natural2 .result)) (sym e) (n .put-natural2 .ensures), omega (arith, n .put-natural2 .ensures .place, l))
