@@ -30,7 +30,7 @@ def cited(contract):
 
 
 def theorems(crate):
-    """The statements of the laws in proofs/, each as one line."""
+    """The statements of the laws in proofs/."""
     for path in glob.glob(os.path.join(ROOT, "crates", crate, "proofs", "*.antt")):
         yield from re.findall(r"^\s*pub [\w-]+ : .*(?:\n\s+→.*)*", read(path), re.MULTILINE)
 

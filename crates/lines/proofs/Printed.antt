@@ -1,6 +1,6 @@
--- Document 01, 'Numbers to meet', the track program: what it prints of any file of one station named twice, which has 304 bytes. Assumes nothing.
+-- Document 01, 'Numbers to meet', the track program: what it prints of any file of one station named twice, and of one that has 304 bytes. Assumes nothing.
 use mathlib.Core.Path.{_≡_, refl, sym, ap, _∙_}
-use mathlib.Core.Bool.{Bool, true}
+use mathlib.Core.Bool.{true}
 use mathlib.Core.List.{List, [], _∷_}
 use Prim.Native.Nat.{ℕ, zero, suc, _*_, _/_, _≤_, _<_}
 use native.Mathlib.Omega.{arith}
@@ -16,7 +16,6 @@ use Rattle.earth.specs.Epoch.{laterOf}
 use Rattle.sections.specs.Words.{bitsAt}
 use Rattle.sections.specs.Layouts.{station, source, orientation, pass, places, noLayout, layoutIn, standsIn}
 use Rattle.sections.specs.File.{refusalOf, countOf, fieldAt, startOf, sectionsRight, kindRight, offsetRight, countRight, lengthRight, contentsRight, recordByte, fieldRight, recordRight, sectionRight, rangesRight, steps, stepRight, orderRight}
-use Rattle.session.specs.declared.Pass.{Pass}
 use Rattle.session.specs.Records.{stationOf, sourceOf, dayOf, passOf, placeBy}
 use Rattle.session.proofs.Laws.{place-is, day-place}
 use Rattle.writer.specs.Bytes.{bytesOf, bytesOfAll}
@@ -27,11 +26,11 @@ use Rattle.fit.specs.Greedy.{grow, longest, counts}
 use Rattle.fit.specs.Rates.{low, upp, rowLo, rowHi, lo, hi, fit, off, bias, scaled, fitOf, tilted, lifted, rateOf, offsetOf}
 use Rattle.track.specs.Segments.{Segment, flat}
 use Rattle.track.specs.Made.{segOf, segsOf, trackOf}
-use Rattle.track.specs.Answer.{inRange, outcome, written}
+use Rattle.track.specs.Answer.{inRange, written}
 use Rattle.track.proofs.Answers.{always-enough}
 use Rattle.fringe.specs.PassTrack.{passSamples, passOutcome}
 use Rattle.lines.specs.Decimal.{digitsBy, digitsOf, decimal}
-use Rattle.lines.specs.Text.{lineOf, passLine, segmentLine, segmentLines, outcomeText, lentOutcome, passText, passTexts, sessionText}
+use Rattle.lines.specs.Text.{lineOf, passLine, segmentLine, segmentLines, outcomeText, passText, passTexts, sessionText}
 use Rattle.lines.specs.Printed.{OneStationTwice, smallest, inWhole}
 use Rattle.lines.proofs.Passes.{number-by}
 

@@ -1,23 +1,19 @@
 -- The contents table of a file that the writer makes is right: the writer gives 1 for its lists alone. Assumes nothing.
 use mathlib.Core.Path.{_≡_, refl, ap, ap₂, _∙_}
-use Prim.Native.Nat.{ℕ, zero, suc, _+_, _-_, _*_, _/_, _≤_, _<_}
+use Prim.Native.Nat.{ℕ, zero, suc, _+_, _*_, _/_, _≤_, _<_}
 use native.Mathlib.Omega.{arith}
 use mathlib.Core.Bool.{Bool, true, false, cond}
-use mathlib.Core.List.{List, _++_}
-use lib.ListN.{length, getD, length-append, length-map}
+use mathlib.Core.List.{List}
+use lib.ListN.{length, getD}
 use lib.IntN.{ℤ}
 use lib.Dec.{leb}
-use mir.Syntax.{w64}
-use mir.Val.{ofZ}
-use borrow.Author.Tests.{eq-eqb, le-leb, leb-true}
+use borrow.Author.Tests.{eq-eqb, le-leb}
 use Rattle.sections.specs.Words.{word}
 use Rattle.whole.specs.Each.{allBelow}
-use Rattle.sections.specs.Layouts.{layoutIn, places, station, source, orientation, pass}
+use Rattle.sections.specs.Layouts.{layoutIn}
 use Rattle.sections.specs.File.{present, kindOf, firstByte, countOf, startOf, sectionsRight, kindRight, offsetRight, countRight, lengthRight, contentsRight, rangesRight, idsRight, daysRight, refusalOf}
-use Rattle.whole.proofs.Linear.{and-true}
 use Rattle.whole.proofs.Tests.{and-yes}
-use Rattle.writer.specs.Bytes.{wordsOf}
-use Rattle.writer.specs.Writing.{sizeIn, listsRight, contentsFor, fileWords, fileOf, kinds, orElse, writeRefusal}
+use Rattle.writer.specs.Writing.{sizeIn, listsRight, contentsFor, fileOf, kinds, orElse, writeRefusal}
 use Rattle.writer.proofs.Longest.{made-long, made-short}
 use Rattle.writer.proofs.Counts.{List-right, lists-right}
 use Rattle.writer.proofs.Back.{contents-word}

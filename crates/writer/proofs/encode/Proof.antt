@@ -4,7 +4,7 @@ use Rattle.writer.proofs.Paste.{more}
 use Rattle.writer.proofs.All.{all-long}
 use Rattle.writer.proofs.Longest.{made-long}
 use native.Mathlib.Omega.{arith}
-use Prim.Native.Nat.{ℕ, _+_}
+use Prim.Native.Nat.{ℕ}
 use mathlib.Core.Path.{_≡_, ap, _∙_}
 use mathlib.Core.List.{List, _++_, append-assoc}
 use lib.ListN.{length, length-append, length-map}
