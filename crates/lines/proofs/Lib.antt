@@ -1,5 +1,3 @@
-pub mod Digits
-pub mod Puts
 pub mod Texts
 pub mod Session
 pub mod Segments

@@ -13,12 +13,12 @@ use Rattle.whole.proofs.Each.{below-all}
 use Rattle.whole.proofs.Tests.{and-yes}
 use Rattle.whole.proofs.Values.{values-same}
 use Rattle.earth.specs.Epoch.{laterOf}
-use Rattle.sections.specs.Words.{bitsAt}
+use Rattle.text.specs.Words.{bitsAt}
 use Rattle.sections.specs.Layouts.{station, source, orientation, pass, places, noLayout, layoutIn, standsIn}
 use Rattle.sections.specs.File.{refusalOf, countOf, fieldAt, startOf, sectionsRight, kindRight, offsetRight, countRight, lengthRight, contentsRight, recordByte, fieldRight, recordRight, sectionRight, rangesRight, steps, stepRight, orderRight}
 use Rattle.session.specs.Records.{stationOf, sourceOf, dayOf, passOf, placeBy}
 use Rattle.session.proofs.Laws.{place-is, day-place}
-use Rattle.writer.specs.Bytes.{bytesOf, bytesOfAll}
+use Rattle.text.specs.Bytes.{bytesOf, bytesOfAll}
 use Rattle.delay.specs.Calls.{samplesOf, sampleIn, samplesNumber, allThere, allCovered}
 use Rattle.delay.specs.Sessions.{hasId, hasDay, covers, sampleEpoch}
 use Rattle.delay.proofs.Theorems.{sample-same}
@@ -29,7 +29,7 @@ use Rattle.track.specs.Made.{segOf, segsOf, trackOf}
 use Rattle.track.specs.Answer.{inRange, written}
 use Rattle.track.proofs.Answers.{always-enough}
 use Rattle.fringe.specs.PassTrack.{passSamples, passOutcome}
-use Rattle.lines.specs.Decimal.{digitsBy, digitsOf, decimal}
+use Rattle.text.specs.Decimal.{digitsBy, digitsOf, decimal}
 use Rattle.lines.specs.Text.{lineOf, passLine, segmentLine, segmentLines, outcomeText, passText, passTexts, sessionText}
 use Rattle.lines.specs.Printed.{OneStationTwice, smallest, inWhole}
 use Rattle.lines.proofs.Passes.{number-by}

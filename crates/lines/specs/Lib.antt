@@ -1,4 +1,2 @@
-pub mod Decimal
-pub mod Put
 pub mod Text
 pub mod Printed

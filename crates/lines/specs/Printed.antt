@@ -5,7 +5,7 @@ use mathlib.Core.List.{List, [], _∷_}
 use lib.IntN.{pos}
 use Rattle.sections.specs.File.{refusalOf, countOf}
 use Rattle.session.specs.Records.{stationOf, sourceOf, dayOf, passOf}
-use Rattle.writer.specs.Bytes.{bytesOfAll}
+use Rattle.text.specs.Bytes.{bytesOfAll}
 use Rattle.delay.specs.Sessions.{sampleEpoch}
 
 -- an accepted file of one station, one source, two days and one pass: 3 samples of that station with itself, with tolerance 0, all of them on the first day

@@ -10,7 +10,7 @@ use Rattle.whole.specs.Whole.{posPart}
 use Rattle.sections.specs.File.{refusalOf, countOf}
 use Rattle.track.specs.Answer.{Outcome}
 use Rattle.fringe.specs.PassTrack.{passOutcome}
-use Rattle.lines.specs.Decimal.{decimal}
+use Rattle.text.specs.Decimal.{decimal}
 
 -- numbers with one space between, ended by a line feed
 unfoldable pub lineOf : ℤ → List ℤ → List ℕ

@@ -1,15 +1,13 @@
 // The text that the program prints of a file, put into a lent room: specs/Text.antt says what it is.
-mod ascii;
-
-use ascii::put_natural;
-use ascii::put_number;
-use ascii::put_word;
+use text::decimal::put_natural;
+use text::decimal::put_number;
+use text::decimal::put_word;
 use fringe::pass_track;
 use whole::sign::size;
 ghost use mathlib.Core.Path.{_≡_};
 ghost use Prim.Native.Nat.{_+_, _*_, _≤_};
 ghost use lib.ListN.{length};
-ghost use Rattle.lines.specs.Put.{Put};
+ghost use Rattle.text.specs.Put.{Put};
 ghost use Rattle.lines.specs.Text.{refusedLine, passLine, segmentLine, segmentLines, passText, lentOutcome};
 
 // "prints `refused` and the number", at the start of the room.

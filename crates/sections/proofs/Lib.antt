@@ -1,4 +1,3 @@
-pub mod Bits
 pub mod Shapes
 pub mod Walk
 pub mod Numbers

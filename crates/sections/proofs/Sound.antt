@@ -13,7 +13,7 @@ use lib.Signed.{leZ}
 use lib.Dec.{leb}
 use borrow.Author.Tests.{leb-true, ltb-true, eqb-true}
 use Rattle.whole.specs.Each.{firstNot}
-use Rattle.sections.specs.Words.{numberAt}
+use Rattle.text.specs.Words.{numberAt}
 use Rattle.sections.specs.Layouts.{Range, range, standsIn}
 use Rattle.sections.specs.Code.{padded, shapeOf, insideBy, recordBy, stepBy}
 use Rattle.sections.specs.File.{present, layoutOf, sizeOf, countOf, kindOf, firstByte, startOf, sectionsRight, kindRight, offsetRight, countRight, lengthRight, kindsRight, countsRight, offsetsRight, contentsRight, recordByte, fieldAt, fieldRight, recordRight, steps, stepRight}

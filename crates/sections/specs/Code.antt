@@ -6,7 +6,7 @@ use lib.ListN.{length, getD, take, replicate}
 use lib.IntN.{ℤ, pos}
 use Rattle.whole.specs.Each.{allBelow}
 use Rattle.whole.specs.Ranges.{within}
-use Rattle.sections.specs.Words.{numberAt}
+use Rattle.text.specs.Words.{numberAt}
 use Rattle.sections.specs.declared.layouts.Shape.{Shape}
 use Rattle.sections.specs.Layouts.{Range, Layout}
 use Rattle.sections.specs.File.{steps, eqZ}

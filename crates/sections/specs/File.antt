@@ -9,7 +9,7 @@ use lib.Signed.{leZ, ltZ}
 use lib.Dec.{leb, eqb}
 use Rattle.whole.specs.Each.{allBelow, implies}
 use Rattle.whole.specs.Ranges.{within}
-use Rattle.sections.specs.Words.{numberAt, word}
+use Rattle.text.specs.Words.{numberAt, word}
 use Rattle.sections.specs.Layouts.{Range, Layout, layoutIn, standsIn, rising, consecutive, range}
 
 -- ---- the contents table

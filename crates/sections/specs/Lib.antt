@@ -1,4 +1,3 @@
-pub mod Words
 pub mod Layouts
 pub mod File
 pub mod Table

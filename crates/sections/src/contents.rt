@@ -9,7 +9,7 @@ ghost use Rattle.sections.specs.File.{present, between, layoutOf, sectio
 ghost use Rattle.sections.specs.Table.{entryRight, wrongWord};
 use crate::layouts::Shape;
 use crate::layouts::layout_in;
-use crate::words::word_at;
+use text::words::word_at;
 
 fn present(s: &[u8], j: usize) -> bool
     requires { ⌜ j < 14 ⌝ }

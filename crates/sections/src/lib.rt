@@ -4,4 +4,3 @@ pub mod layouts;
 pub mod order;
 pub mod ranges;
 pub mod refusal;
-pub mod words;

@@ -9,8 +9,8 @@ ghost use Rattle.whole.specs.Each.{firstNot};
 ghost use Rattle.sections.specs.Code.{stepBy};
 ghost use Rattle.sections.specs.File.{contentsRight, countOf, eqZ, steps, stepRight, orderRight};
 use crate::contents::layout_of;
-use crate::words::number_at;
-use crate::words::word_at;
+use text::words::number_at;
+use text::words::word_at;
 
 fn less(a: i64, b: i64) -> bool
     ensures { λ r. ⌜ r ≡ ltZ a b ⌝ }

@@ -7,8 +7,8 @@ ghost use Rattle.whole.specs.Each.{firstNot};
 ghost use Rattle.sections.specs.Code.{insideBy, recordBy};
 ghost use Rattle.sections.specs.File.{contentsRight, countOf, recordRight, sectionRight};
 use crate::contents::layout_of;
-use crate::words::number_at;
-use crate::words::word_at;
+use text::words::number_at;
+use text::words::word_at;
 use whole::sign::in_range;
 
 // Whether number k from byte at on is in its range.

@@ -3,14 +3,14 @@ ghost use mathlib.Core.Path.{_≡_};
 ghost use Prim.Native.Nat.{_+_, _*_, _<_, _≤_};
 ghost use lib.ListN.{length};
 ghost use lib.IntN.{pos};
-ghost use Rattle.sections.specs.Words.{numberAt};
+ghost use Rattle.text.specs.Words.{numberAt};
 ghost use Rattle.sections.specs.File.{refusalOf, countOf, sizeOf, recordByte};
 use crate::contents::layout_of;
 use crate::contents::wrong_word;
 use crate::order::wrong_order;
 use crate::ranges::wrong_section;
-use crate::words::number_at;
-use crate::words::word_at;
+use text::words::number_at;
+use text::words::word_at;
 
 // The lowest number that applies; 0 where the file is accepted.
 pub fn refusal_of(s: &[u8]) -> usize

@@ -12,7 +12,7 @@ use mir.Syntax.{w64}
 use mir.Val.{toZ, ofZ}
 use Rattle.whole.proofs.Linear.{ret}
 use Rattle.whole.specs.Each.{firstNot}
-use Rattle.sections.specs.Words.{numberAt}
+use Rattle.text.specs.Words.{numberAt}
 use Rattle.sections.specs.Layouts.{Layout, station, source, orientation, pass}
 use Rattle.sections.specs.File.{kindOf, layoutOf, sizeOf, firstByte, countOf, recordByte, eqZ, refusalOf}
 use Rattle.sections.specs.Code.{otherBy}

@@ -3,7 +3,7 @@ ghost use mathlib.Core.Path.{_≡_};
 ghost use Prim.Native.Nat.{_+_, _*_, _<_, _≤_};
 ghost use lib.ListN.{length};
 ghost use Rattle.whole.specs.Each.{firstNot};
-ghost use Rattle.sections.specs.Words.{numberAt};
+ghost use Rattle.text.specs.Words.{numberAt};
 ghost use Rattle.sections.specs.Code.{otherBy};
 ghost use Rattle.sections.specs.File.{refusalOf, countOf, eqZ};
 ghost use Rattle.session.specs.Records.{stationOf, sourceOf, dayOf, passOf, noStation, noSource, noDay, noPass, placeBy, stationBy, sourceBy, dayBy, askedOf};
@@ -17,8 +17,8 @@ use sections::refusal::field_at;
 use sections::refusal::number;
 use sections::refusal::record_byte;
 use sections::refusal::refusal_of;
-use sections::words::number_at;
-use sections::words::word_at;
+use text::words::number_at;
+use text::words::word_at;
 
 pub fn station_of(s: &[u8], i: usize) -> Station
     requires { ⌜ (refusalOf (now s) ≡ 0) × (i < countOf (now s) 0) ⌝ }

@@ -78,7 +78,7 @@ fn show_files(s: &[u8]) {
         if s.len() - at < 8 {
             return;
         }
-        let n = sections::words::bits_at(s, at) as usize;
+        let n = text::words::bits_at(s, at) as usize;
         let from = at + 8;
         if s.len() - from < n {
             return;

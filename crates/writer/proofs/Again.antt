@@ -8,18 +8,18 @@ use lib.ListN.{length, getD, take, drop, length-drop, take-append-drop}
 use lib.Seq.{length-take-le, getD-take, drop-drop, take-all, ext-getD}
 use lib.Dec.{eqb}
 use borrow.Author.Tests.{eqb-true, eq-eqb}
-use Rattle.sections.specs.Words.{word}
+use Rattle.text.specs.Words.{word}
 use Rattle.sections.specs.Layouts.{layoutIn, standsIn, places, station, source, orientation, pass}
 use Rattle.sections.specs.File.{refusalOf, countOf, kindOf, layoutOf, present, between, sectionsRight, countRight}
 use Rattle.whole.proofs.Linear.{and-true, no-ft}
 use Rattle.whole.proofs.Tests.{and-yes}
 use Rattle.sections.proofs.Accepted.{accepted-contents}
 use Rattle.sections.proofs.Sound.{five, kind-stands, count-is-right}
-use Rattle.writer.specs.Bytes.{bytesOfAll, wordsOf}
+use Rattle.text.specs.Bytes.{bytesOfAll, wordsOf}
 use Rattle.writer.specs.Writing.{sizeIn, listRight, listsRight, contentsFor, fileWords, fileOf, kinds}
 use Rattle.writer.specs.Handed.{stationsIn, sourcesIn, daysIn, passesIn}
-use Rattle.writer.proofs.Numbers.{Bytes}
-use Rattle.writer.proofs.All.{bytes-back}
+use Rattle.text.proofs.Numbers.{Bytes}
+use Rattle.text.proofs.All.{bytes-back}
 use Rattle.whole.proofs.Values.{values-long}
 use Rattle.writer.proofs.Tables.{wordsIn, word-is, numbers-long, words-of-values}
 use Rattle.writer.proofs.Sections.{at-first, at-second, at-third, at-fourth, file-long, stations-values, sources-values, days-values, passes-values}

@@ -10,14 +10,14 @@ use lib.IntN.{ℤ, pos}
 use mir.Syntax.{w64}
 use mir.Val.{toZ, ofZ}
 use mir.Facts.{toZ-ofZ}
-use Rattle.sections.specs.Words.{word}
+use Rattle.text.specs.Words.{word}
 use Rattle.sections.specs.Layouts.{layoutIn, places, station, source, orientation, pass}
 use Rattle.sections.specs.File.{refusalOf, countOf}
-use Rattle.writer.specs.Bytes.{bytesOfAll, wordsOf}
+use Rattle.text.specs.Bytes.{bytesOfAll, wordsOf}
 use Rattle.writer.specs.Writing.{listsRight, contentsFor, fileWords, fileOf, kinds}
 use Rattle.writer.specs.Handed.{stationsIn, sourcesIn, daysIn, passesIn}
 use Rattle.writer.specs.Round.{Longs}
-use Rattle.writer.proofs.All.{all-long, numbers-back}
+use Rattle.text.proofs.All.{all-long, numbers-back}
 use Rattle.writer.proofs.Counts.{lists-right}
 use Rattle.whole.specs.Values.{firstValues}
 use Rattle.whole.proofs.Values.{values-long, value-at}

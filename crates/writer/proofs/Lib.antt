@@ -1,7 +1,3 @@
-pub mod Numbers
-pub mod Eight
-pub mod All
-pub mod Paste
 pub mod Counts
 pub mod Longest
 pub mod Outcomes

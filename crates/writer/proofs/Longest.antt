@@ -14,9 +14,9 @@ use Rattle.whole.proofs.Linear.{and-true}
 use Rattle.whole.proofs.Products.{below}
 use Rattle.sections.specs.Layouts.{Layout, places, station, source, orientation, pass, noLayout, ofKind, layoutIn}
 use Rattle.writer.specs.declared.Kinds.{Kinds}
-use Rattle.writer.specs.Bytes.{wordsOf}
+use Rattle.text.specs.Bytes.{wordsOf}
 use Rattle.writer.specs.Writing.{sizeIn, listsRight, contentsFor, fileWords, fileOf}
-use Rattle.writer.proofs.All.{all-long}
+use Rattle.text.proofs.All.{all-long}
 use Rattle.writer.proofs.Counts.{List-right, lists-right}
 
 -- ---- the most numbers that a place holds

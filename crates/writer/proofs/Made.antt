@@ -8,7 +8,7 @@ use lib.ListN.{length, getD}
 use lib.IntN.{ℤ}
 use lib.Dec.{leb}
 use borrow.Author.Tests.{eq-eqb, le-leb}
-use Rattle.sections.specs.Words.{word}
+use Rattle.text.specs.Words.{word}
 use Rattle.whole.specs.Each.{allBelow}
 use Rattle.sections.specs.Layouts.{layoutIn}
 use Rattle.sections.specs.File.{present, kindOf, firstByte, countOf, startOf, sectionsRight, kindRight, offsetRight, countRight, lengthRight, contentsRight, rangesRight, idsRight, daysRight, refusalOf}

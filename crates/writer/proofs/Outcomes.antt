@@ -13,7 +13,7 @@ use Rattle.sections.specs.File.{refusalOf}
 use Rattle.whole.specs.Answers.{number, noNumber, answerBy}
 use Rattle.whole.proofs.Answers.{answer-no, answer-yes}
 use Rattle.writer.specs.declared.Kinds.{Kinds}
-use Rattle.writer.specs.Bytes.{pasted}
+use Rattle.text.specs.Bytes.{pasted}
 use Rattle.writer.specs.Writing.{listsRight, fileOf, orElse, writeRefusal, writtenAs, roomAs}
 use Rattle.writer.specs.Promises.{WriteAsPromise}
 

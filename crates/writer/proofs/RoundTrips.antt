@@ -11,11 +11,11 @@ use Rattle.session.specs.declared.Counts.{Counts}
 use Rattle.session.specs.Records.{checkOf}
 use Rattle.session.proofs.Answers.{check-accepted}
 use Rattle.whole.specs.declared.Number.{Number}
-use Rattle.writer.specs.Bytes.{pasted}
+use Rattle.text.specs.Bytes.{pasted}
 use Rattle.writer.specs.Writing.{listsRight, fileOf, kinds, writeRefusal, writtenOf, roomAfter}
 use Rattle.writer.specs.Handed.{stationsIn, sourcesIn, daysIn, passesIn}
 use Rattle.writer.specs.Round.{Longs, writtenIn, ReadBack, WrittenBack}
-use Rattle.writer.proofs.Numbers.{Bytes}
+use Rattle.text.proofs.Numbers.{Bytes}
 use Rattle.whole.proofs.Answers.{answer-no, answer-yes}
 use Rattle.writer.proofs.Outcomes.{front, answered, room-written, by-file, accepted}
 use Rattle.writer.proofs.Sections.{check-zero}

@@ -8,7 +8,7 @@ use lib.ListN.{length}
 use lib.IntN.{ℤ, pos, natAbs}
 use mir.Syntax.{w64}
 use mir.Val.{toZ}
-use Rattle.sections.specs.Words.{bitsAt, word}
+use Rattle.text.specs.Words.{bitsAt, word}
 use Rattle.sections.specs.File.{refusalOf, countOf, sizeOf, firstByte, startOf, recordByte, fieldAt}
 use Rattle.sections.proofs.Accepted.{accepted-contents}
 use Rattle.sections.proofs.Sound.{first-is, length-is}

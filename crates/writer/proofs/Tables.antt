@@ -10,12 +10,12 @@ use lib.IntN.{ℤ, pos}
 use mir.Syntax.{w64}
 use mir.Val.{toZ, ofZ, Fits}
 use mir.Facts.{ofZ-toZ}
-use Rattle.sections.specs.Words.{bitsAt, word}
+use Rattle.text.specs.Words.{bitsAt, word}
 use Rattle.whole.specs.Values.{firstValues}
 use Rattle.whole.proofs.Values.{values-long, value-at, values-join}
-use Rattle.writer.specs.Bytes.{wordsOf}
+use Rattle.text.specs.Bytes.{wordsOf}
 use Rattle.writer.specs.Handed.{joined}
-use Rattle.writer.proofs.Numbers.{numbersOf, Bytes}
+use Rattle.text.proofs.Numbers.{numbersOf, Bytes}
 
 -- records of size numbers each, one after the other
 pub joined-values : (size n : ℕ) (f : ℕ → List ℤ) (g : ℕ → ℤ) → ((i : ℕ) → i < n → f i ≡ firstValues size (λ (k : ℕ). g (size * i + k))) → joined n f ≡ firstValues (size * n) g

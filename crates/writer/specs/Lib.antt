@@ -1,5 +1,3 @@
-pub mod Bytes
-pub mod Code
 pub mod Writing
 pub mod Handed
 pub mod Round

@@ -8,7 +8,7 @@ use lib.IntN.{ℤ, pos, natAbs}
 use mir.Syntax.{w64}
 use mir.Val.{SFits}
 use Rattle.session.specs.Records.{checkOf}
-use Rattle.writer.specs.Bytes.{pasted}
+use Rattle.text.specs.Bytes.{pasted}
 use Rattle.writer.specs.Writing.{writtenOf, roomAfter}
 use Rattle.writer.specs.Handed.{stationsIn, sourcesIn, daysIn, passesIn}
 

@@ -8,7 +8,7 @@ use lib.IntN.{ℤ, pos}
 use lib.Dec.{leb, eqb}
 use Rattle.sections.specs.Layouts.{layoutIn, standsIn}
 use Rattle.sections.specs.File.{refusalOf, between}
-use Rattle.writer.specs.Bytes.{bytesOfAll, wordsOf, pasted}
+use Rattle.text.specs.Bytes.{bytesOfAll, wordsOf, pasted}
 use Rattle.whole.specs.declared.Number.{Number}
 use Rattle.whole.specs.Answers.{answerBy}
 use Rattle.writer.specs.declared.Kinds.{Kinds}

@@ -4,16 +4,15 @@ ghost use mathlib.Core.Bool.{true};
 ghost use Prim.Native.Nat.{_<_, _≤_};
 ghost use lib.ListN.{length};
 ghost use Rattle.whole.specs.Answers.{noNumber};
-ghost use Rattle.writer.specs.Bytes.{pasted};
+ghost use Rattle.text.specs.Bytes.{pasted};
 ghost use Rattle.writer.specs.Writing.{listsRight, fileOf};
 ghost use Rattle.writer.specs.Promises.{WritePromise, WriteAsPromise};
 
-pub mod bytes;
 mod lists;
 pub mod theorems;
 
-use bytes::put_numbers;
-use bytes::put_words;
+use text::bytes::put_numbers;
+use text::bytes::put_words;
 use lists::contents_for;
 use lists::lists_right;
 use sections::refusal::number;

@@ -12,9 +12,9 @@ use mir.Val.{toZ, ofZ}
 use Rattle.whole.specs.Whole.{posPart, ∣_∣}
 use Rattle.whole.proofs.Linear.{ret}
 use Rattle.track.specs.Answer.{Outcome}
-use Rattle.lines.specs.Put.{Put}
+use Rattle.text.specs.Put.{Put}
 use Rattle.lines.specs.Text.{refusedLine, passLine, segmentLines, outcomeText, passText, lentOutcome}
-use Rattle.lines.proofs.Puts.{put-then, put-long}
+use Rattle.text.proofs.Puts.{put-then, put-long}
 use Rattle.lines.proofs.Texts.{lent-holds, refused-is, made-is}
 use borrow.Author.Needs.{needs}
 use Rattle.lines.proofs.pass_text.Statement.{statement}

@@ -8,11 +8,11 @@ use lib.IntN.{ℤ}
 use mir.Syntax.{w64}
 use mir.Val.{Fits}
 use Rattle.whole.proofs.Linear.{back}
-use Rattle.lines.specs.Decimal.{digitsOf, decimal}
-use Rattle.lines.specs.Put.{Put}
+use Rattle.text.specs.Decimal.{digitsOf, decimal}
+use Rattle.text.specs.Put.{Put}
 use Rattle.lines.specs.Text.{lineOf, passLine}
-use Rattle.lines.proofs.Digits.{at-most}
-use Rattle.lines.proofs.Puts.{put-then, put-long}
+use Rattle.text.proofs.Digits.{at-most}
+use Rattle.text.proofs.Puts.{put-then, put-long}
 use borrow.Author.Needs.{needs}
 use Rattle.lines.proofs.put_pass.Statement.{statement}
 use Rattle.lines.proofs.put_pass.Tie as tie

@@ -9,10 +9,10 @@ use lib.Signed.{mag}
 use mir.Syntax.{w64}
 use mir.Val.{toZ, ofZ}
 use Rattle.whole.proofs.Linear.{ret}
-use Rattle.lines.specs.Decimal.{decimal}
-use Rattle.lines.specs.Put.{Put}
+use Rattle.text.specs.Decimal.{decimal}
+use Rattle.text.specs.Put.{Put}
 use Rattle.lines.specs.Text.{lineOf, segmentLine}
-use Rattle.lines.proofs.Puts.{put-then, put-long}
+use Rattle.text.proofs.Puts.{put-then, put-long}
 use borrow.Author.Needs.{needs}
 use Rattle.lines.proofs.put_segment.Statement.{statement}
 use Rattle.lines.proofs.put_segment.Tie as tie

@@ -7,9 +7,9 @@ use native.Mathlib.Omega.{arith}
 use native.Mathlib.Numerals.{add-one}
 use lib.IntN.{ℤ}
 use lib.ListN.{length}
-use Rattle.lines.specs.Put.{Put}
+use Rattle.text.specs.Put.{Put}
 use Rattle.lines.specs.Text.{segmentLine, segmentLines}
-use Rattle.lines.proofs.Puts.{put-none, put-then}
+use Rattle.text.proofs.Puts.{put-none, put-then}
 use Rattle.lines.proofs.put_segments.Statement.{statement}
 use Rattle.lines.proofs.put_segments.Tie as tie
 

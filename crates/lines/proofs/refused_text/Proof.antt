@@ -2,7 +2,7 @@
 use native.Mathlib.Omega.{arith}
 use Rattle.whole.proofs.Linear.{back}
 use Rattle.lines.specs.Text.{lineOf, refusedLine}
-use Rattle.lines.proofs.Puts.{put-then}
+use Rattle.text.proofs.Puts.{put-then}
 use borrow.Author.Needs.{needs}
 use Rattle.lines.proofs.refused_text.Statement.{statement}
 use Rattle.lines.proofs.refused_text.Tie as tie

@@ -2,7 +2,7 @@
 use mathlib.Core.Path.{sym, _∙_}
 use lib.Seq.{length-take-le}
 use Rattle.whole.proofs.Linear.{ret}
-use Rattle.lines.proofs.Puts.{put-inside, put-start}
+use Rattle.text.proofs.Puts.{put-inside, put-start}
 use borrow.Author.Needs.{needs}
 use Rattle.program.proofs.print_pass.Statement.{statement}
 use Rattle.program.proofs.print_pass.Tie as tie

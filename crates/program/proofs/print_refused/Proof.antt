@@ -3,7 +3,7 @@ use mathlib.Core.Path.{sym, ap, _∙_}
 use lib.Seq.{length-take-le}
 use Rattle.whole.proofs.Linear.{back}
 use Rattle.lines.specs.Text.{refusedLine}
-use Rattle.lines.proofs.Puts.{put-inside, put-start}
+use Rattle.text.proofs.Puts.{put-inside, put-start}
 use borrow.Author.Needs.{needs}
 use Rattle.program.proofs.print_refused.Statement.{statement}
 use Rattle.program.proofs.print_refused.Tie as tie

@@ -1,7 +1,7 @@
 use Rattle.writer.specs.Writing.{fileOf, fileWords, contentsFor}
-use Rattle.writer.specs.Bytes.{bytesOfAll, wordsOf, pasted}
-use Rattle.writer.proofs.Paste.{more}
-use Rattle.writer.proofs.All.{all-long}
+use Rattle.text.specs.Bytes.{bytesOfAll, wordsOf, pasted}
+use Rattle.text.proofs.Paste.{more}
+use Rattle.text.proofs.All.{all-long}
 use Rattle.writer.proofs.Longest.{made-long}
 use native.Mathlib.Omega.{arith}
 use Prim.Native.Nat.{ℕ}

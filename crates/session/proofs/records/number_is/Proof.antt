@@ -5,7 +5,7 @@ use mir.Val.{ofZ}
 use Rattle.whole.proofs.Linear.{bits-eq}
 use Rattle.whole.proofs.Tests.{same-test}
 use Rattle.sections.specs.File.{eqZ}
-use Rattle.sections.specs.Words.{numberAt}
+use Rattle.text.specs.Words.{numberAt}
 use Rattle.sections.proofs.Numbers.{eqZ-true, eqZ-refl}
 use borrow.Author.Needs.{needs}
 use Rattle.session.proofs.records.number_is.Statement.{statement}

@@ -1,0 +1,70 @@
+// Numbers and words as bytes of ASCII, put into a lent room. Each function answers the place behind what it put.
+ghost use mathlib.Core.Path.{_≡_};
+ghost use mathlib.Core.List.{_∷_, [], _++_};
+ghost use Prim.Native.Nat.{_+_, _≤_};
+ghost use lib.ListN.{length};
+ghost use Rattle.text.specs.Decimal.{digitsOf, decimal};
+ghost use Rattle.text.specs.Put.{Put};
+use whole::sign::size;
+use crate::bytes::copy;
+
+// The bytes of a word, from at on.
+pub fn put_word(room: &mut [u8], at: usize, word: &[u8]) -> usize
+    requires { ⌜ at + length (now word) ≤ length (now room) ⌝ }
+    ensures { λ r. ⌜ Put (now (room .entry)) at (now (word .entry)) (now (room .exit)) r ⌝ }
+{
+    copy(room, at, word);
+    at + word.len()
+}
+
+// How many digits n has.
+fn digits(n: u64) -> usize
+    ensures { λ r. ⌜ r ≡ length (digitsOf n) ⌝ }
+{
+    let mut k: usize = 1;
+    let mut rest = n;
+    while 10 <= rest {
+        rest /= 10;
+        k += 1;
+    }
+    k
+}
+
+// The digits of n, from at on. They are put from the last to the first.
+pub fn put_natural(room: &mut [u8], at: usize, n: u64) -> usize
+    requires { ⌜ at + length (digitsOf n) ≤ length (now room) ⌝ }
+    ensures { λ r. ⌜ Put (now (room .entry)) at (digitsOf n) (now (room .exit)) r ⌝ }
+{
+    let end = at + digits(n);
+    let mut i = end;
+    let mut rest = n;
+    while 10 <= rest {
+        i -= 1;
+        room[i] = 48 + (rest % 10) as u8;
+        rest /= 10;
+    }
+    room[at] = 48 + rest as u8;
+    end
+}
+
+// z in decimal, from at on.
+pub fn put_decimal(room: &mut [u8], at: usize, z: i64) -> usize
+    requires { ⌜ at + 20 ≤ length (now room) ⌝ }
+    ensures { λ r. ⌜ Put (now (room .entry)) at (decimal z) (now (room .exit)) r × (r ≤ at + 20) ⌝ }
+{
+    if z < 0 {
+        room[at] = 45;
+        return put_natural(room, at + 1, size(z));
+    }
+    put_natural(room, at, size(z))
+}
+
+// z in decimal and a byte behind it, from at on.
+pub fn put_number(room: &mut [u8], at: usize, z: i64, behind: u8) -> usize
+    requires { ⌜ at + 21 ≤ length (now room) ⌝ }
+    ensures { λ r. ⌜ Put (now (room .entry)) at (decimal z ++ (behind ∷ [])) (now (room .exit)) r × (r ≤ at + 21) ⌝ }
+{
+    let end = put_decimal(room, at, z);
+    room[end] = behind;
+    end + 1
+}

@@ -1,0 +1,56 @@
+-- Where the numbers stand in their order the lowest that applies is the first, as the code comes to it test by test. Assumes nothing.
+use mathlib.Core.Path.{_≡_, refl, _∙_}
+use mathlib.Core.Bool.{Bool, true, false}
+use mathlib.Core.List.{List, [], _∷_}
+use Prim.Native.Nat.{ℕ, zero, suc, _≤_}
+use native.Mathlib.Omega.{arith}
+use Rattle.whole.specs.Refusals.{unless, lowerOf, lowest, firstOf}
+
+-- each number that is given is from `low` on, and none behind it can be lower
+pub data InOrder : ℕ → List ℕ → Type 0 where
+  end : {low : ℕ} → InOrder low []
+  some : {low n : ℕ} {ns : List ℕ} (high : ℕ) → low ≤ high → ((n ≡ 0 → ⊥) → (low ≤ n) × (n ≤ high)) → InOrder high ns → InOrder low (n ∷ ns)
+
+-- a test with its number, and a number that is at most k
+pub test : {ns : List ℕ} (low k : ℕ) (b : Bool) → low ≤ k → InOrder k ns → InOrder low (unless b k ∷ ns)
+test low k true h r = some k h (λ g. absurd (g refl)) r
+test low k false h r = some k h (λ g. (h, omega arith)) r
+
+pub up-to : {ns : List ℕ} (n k : ℕ) → n ≤ k → InOrder k ns → InOrder 0 (n ∷ ns)
+up-to n k h r = some {low = 0} {n = n} k (omega arith) (λ g. (omega arith, h)) r
+
+from-low : (low : ℕ) (ns : List ℕ) → InOrder low ns → (lowest ns ≡ 0 → ⊥) → low ≤ lowest ns
+from-low low [] end g = absurd (g refl)
+from-low low (zero ∷ ns) (some high l f r) g = omega (arith, from-low high ns r g)
+from-low low (suc n ∷ ns) (some high l f r) g = by (lowest ns) (from-low high ns r)
+  where
+    by : (m : ℕ) → ((m ≡ 0 → ⊥) → high ≤ m) → low ≤ lowerOf (suc n) m
+    by zero h = f (λ e. omega arith) .0
+    by (suc m) h = omega (arith, f (λ e. omega arith) .0, h (λ e. omega arith))
+
+ordered : (low : ℕ) (ns : List ℕ) → InOrder low ns → lowest ns ≡ firstOf ns
+ordered low [] end = refl
+ordered low (zero ∷ ns) (some high l f r) = ordered high ns r
+ordered low (suc n ∷ ns) (some high l f r) = by (lowest ns) (from-low high ns r)
+  where
+    by : (m : ℕ) → ((m ≡ 0 → ⊥) → high ≤ m) → lowerOf (suc n) m ≡ suc n
+    by zero h = refl
+    by (suc m) h = omega (arith, f (λ e. omega arith) .1, h (λ e. omega arith))
+
+pub in-order : {low : ℕ} {ns : List ℕ} → InOrder low ns → lowest ns ≡ firstOf ns
+in-order {low = low} {ns = ns} r = ordered low ns r
+
+-- ---- no number is given exactly where no test fails
+
+pub unless-zero : (b : Bool) (n : ℕ) → unless b (suc n) ≡ 0 → b ≡ true
+unless-zero true n e = refl
+unless-zero false n e = absurd (omega arith)
+
+pub first-zero : (n : ℕ) (ns : List ℕ) → firstOf (n ∷ ns) ≡ 0 → (n ≡ 0) × (firstOf ns ≡ 0)
+first-zero zero ns e = (refl, e)
+first-zero (suc n) ns e = absurd (omega arith)
+
+-- the number that applies stands before all that follow
+pub first-is : (n : ℕ) (ns : List ℕ) → (n ≡ 0 → ⊥) → firstOf (n ∷ ns) ≡ n
+first-is zero ns g = absurd (g refl)
+first-is (suc n) ns g = refl
