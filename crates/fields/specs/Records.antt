@@ -1,9 +1,42 @@
--- The records of a session file whose fields are in their ranges. Document 01, 'Session file'.
+-- The records of a session, each made of a row of numbers, and with its fields in their ranges. Document 01, 'Session file'.
+use Prim.Native.Nat.{ℕ}
+use mathlib.Core.List.{List}
+use lib.IntN.{ℤ, pos}
+use lib.ListN.{getD}
 use Rattle.fields.specs.declared.Station.{Station}
 use Rattle.fields.specs.declared.Source.{Source}
 use Rattle.fields.specs.declared.Day.{Day}
 use Rattle.fields.specs.declared.Pass.{Pass}
 use Rattle.fields.specs.Ranges.{Holds, idNumber, coordinate, rightAscension, declination, mjd, pole, ut1utc, taiutc, millisecond, step, samples, tolerance}
+
+-- ---- the fields stand in the row in document 01's order
+
+abbrev pub numberIn : List ℤ → ℕ → ℤ
+numberIn row k = getD row k (pos 0)
+
+unfoldable pub stationFrom : List ℤ → Station
+stationFrom row = record { id = numberIn row 0; x = numberIn row 1; y = numberIn row 2; z = numberIn row 3 }
+
+unfoldable pub sourceFrom : List ℤ → Source
+sourceFrom row = record { id = numberIn row 0; «right_ascension» = numberIn row 1; declination = numberIn row 2 }
+
+unfoldable pub dayFrom : List ℤ → Day
+dayFrom row = record { mjd = numberIn row 0; x = numberIn row 1; y = numberIn row 2; «ut1_utc» = numberIn row 3; «tai_utc» = numberIn row 4 }
+
+unfoldable pub passFrom : List ℤ → Pass
+passFrom row =
+    record {
+      station1 = numberIn row 0;
+      station2 = numberIn row 1;
+      source = numberIn row 2;
+      mjd = numberIn row 3;
+      ms = numberIn row 4;
+      step = numberIn row 5;
+      samples = numberIn row 6;
+      tolerance = numberIn row 7;
+    }
+
+-- ---- each field in its range
 
 pub record InStation (r : Station) : Type 0 where
   pub id : Holds idNumber (r .id)
