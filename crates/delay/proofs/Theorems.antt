@@ -31,7 +31,7 @@ use Rattle.delay.proofs.Covered.{earth-in-size}
 use Rattle.delay.proofs.Epochs.{sample-ms}
 use Rattle.delay.proofs.Lowest.{lower-zero, unless-zero, days-first, six-fails}
 use Rattle.delay.proofs.Ranges.{asked-in}
-use Rattle.delay.proofs.Written.{sample-at}
+use Rattle.whole.proofs.Values.{sample-at}
 
 -- ---- one value: any two results that a promise allows are equal
 pub orientation-one : (s : List ℕ) (day ms : ℤ) (a b : EarthAnswer) → OrientationPromise s day ms a → OrientationPromise s day ms b → a ≡ b

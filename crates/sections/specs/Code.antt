@@ -8,7 +8,8 @@ use Rattle.whole.specs.Each.{allBelow}
 use Rattle.whole.specs.Ranges.{within}
 use Rattle.text.specs.Words.{numberAt}
 use Rattle.sections.specs.declared.layouts.Shape.{Shape}
-use Rattle.sections.specs.Layouts.{Range, Layout}
+use Rattle.fields.specs.declared.ranges.Range.{Range}
+use Rattle.sections.specs.Layouts.{Layout}
 use Rattle.sections.specs.File.{steps, eqZ}
 
 -- ---- a layout as the code holds it

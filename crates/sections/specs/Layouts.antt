@@ -1,23 +1,12 @@
--- The shape of a session file, as data. Document 01, 'Session file': the table of kinds, and the ranges below it.
--- The contents table, the length, the ranges, the order, the fault and the writer all go by `places`.
+-- The shape of a session file, as data. Document 01, 'Session file': the table of kinds. The contents table, the length, the ranges, the order, the fault and
+-- the writer all go by a table of places; `places` is today's.
 use Prim.Native.Nat.{ℕ}
 use mathlib.Core.Bool.{Bool, true, false, cond}
 use mathlib.Core.List.{List, [], _∷_}
 use lib.ListN.{getD}
-use lib.IntN.{ℤ, pos, negℤ}
 use lib.Dec.{eqb}
-
--- the values that a field may have, both ends taken in
-pub record Range : Type 0 where
-  pub low : ℤ
-  pub high : ℤ
-
-abbrev pub range : ℕ → ℕ → Range
-range a b = record { low = pos a; high = pos b }
-
--- a on either side of zero
-abbrev pub eitherSide : ℕ → Range
-eitherSide a = record { low = negℤ (pos a); high = pos a }
+use Rattle.fields.specs.declared.ranges.Range.{Range}
+use Rattle.fields.specs.Ranges.{idNumber, coordinate, rightAscension, declination, mjd, pole, ut1utc, taiutc, millisecond, step, samples, tolerance}
 
 -- what the first fields of two neighbouring records keep: nothing, the later is the greater, or the later is the next number
 abbrev pub free : ℕ
@@ -37,44 +26,6 @@ pub record Layout : Type 0 where
   pub most : ℕ
   pub order : ℕ
 
--- ---- "Ranges"
-
-abbrev pub idNumber : Range
-idNumber = range 1 65535
-
-abbrev pub coordinate : Range
-coordinate = eitherSide 6400000000
-
-abbrev pub rightAscension : Range
-rightAscension = range 0 4294967295
-
-abbrev pub declination : Range
-declination = eitherSide 1073741824
-
-abbrev pub mjd : Range
-mjd = range 41317 69806
-
-abbrev pub pole : Range
-pole = eitherSide 1000000
-
-abbrev pub ut1utc : Range
-ut1utc = eitherSide 900000000
-
-abbrev pub taiutc : Range
-taiutc = range 0 99
-
-abbrev pub millisecond : Range
-millisecond = range 0 86399999
-
-abbrev pub step : Range
-step = range 1 3600000
-
-abbrev pub samples : Range
-samples = range 1 4096
-
-abbrev pub tolerance : Range
-tolerance = range 0 1000000
-
 -- ---- the kinds
 
 -- "id, X, Y, Z"
@@ -93,8 +44,12 @@ orientation = record { kind = 3; fields = mjd ∷ pole ∷ pole ∷ ut1utc ∷ t
 unfoldable pub pass : Layout
 pass = record { kind = 4; fields = idNumber ∷ idNumber ∷ idNumber ∷ mjd ∷ millisecond ∷ step ∷ samples ∷ tolerance ∷ []; fewest = 1; most = 64; order = free }
 
--- what may stand in each of the four places of a file
-unfoldable pub places : List (List Layout)
+-- what may stand in each place of a file
+abbrev pub Table : Type 0
+Table = List (List Layout)
+
+-- the four places of document 01
+unfoldable pub places : Table
 places = (station ∷ []) ∷ (source ∷ []) ∷ (orientation ∷ []) ∷ (pass ∷ []) ∷ []
 
 -- ---- the layout of a kind
@@ -113,9 +68,12 @@ abbrev pub anyOfKind : List Layout → ℕ → Bool
 anyOfKind [] k = false
 anyOfKind (l ∷ ls) k = cond (eqb k (l .kind)) true (anyOfKind ls k)
 
--- the layout of kind k in place p, and whether there is one
-unfoldable pub layoutIn : ℕ → ℕ → Layout
-layoutIn p k = ofKind (getD places p []) k
+-- the layouts that may stand in place p, the one of kind k among them, and whether there is one
+abbrev pub layoutsIn : Table → ℕ → List Layout
+layoutsIn t p = getD t p []
 
-unfoldable pub standsIn : ℕ → ℕ → Bool
-standsIn p k = anyOfKind (getD places p []) k
+unfoldable pub layoutIn : Table → ℕ → ℕ → Layout
+layoutIn t p k = ofKind (layoutsIn t p) k
+
+unfoldable pub standsIn : Table → ℕ → ℕ → Bool
+standsIn t p k = anyOfKind (layoutsIn t p) k

@@ -1,4 +1,5 @@
 pub mod Layouts
 pub mod File
 pub mod Table
+pub mod Rows
 pub mod Code

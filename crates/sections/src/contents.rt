@@ -7,6 +7,7 @@ ghost use Rattle.whole.specs.Each.{firstNot};
 ghost use Rattle.sections.specs.Code.{shapeOf};
 ghost use Rattle.sections.specs.File.{present, between, layoutOf, sectionsRight, kindRight, offsetRight, countRight, lengthRight, startOf};
 ghost use Rattle.sections.specs.Table.{entryRight, wrongWord};
+ghost use Rattle.sections.specs.Layouts.{places};
 use crate::layouts::Shape;
 use crate::layouts::layout_in;
 use text::words::word_at;
@@ -30,7 +31,7 @@ fn between(low: usize, high: usize, n: usize) -> bool
 // The layout of the records in place p.
 pub fn layout_of(s: &[u8], p: usize) -> Shape
     requires { ⌜ (p < 4) × (8 * (3 * p + 1) + 8 ≤ length (now s)) ⌝ }
-    ensures { λ r. ⌜ r ≡ shapeOf (layoutOf (now (s .entry)) p) ⌝ }
+    ensures { λ r. ⌜ r ≡ shapeOf (layoutOf places (now (s .entry)) p) ⌝ }
 {
     layout_in(p, word_at(s, 3 * p + 1))
 }
@@ -46,7 +47,7 @@ fn sections_right(s: &[u8]) -> bool
 
 fn kind_right(s: &[u8], p: usize) -> bool
     requires { ⌜ p < 4 ⌝ }
-    ensures { λ r. ⌜ r ≡ kindRight (now (s .entry)) p ⌝ }
+    ensures { λ r. ⌜ r ≡ kindRight places (now (s .entry)) p ⌝ }
 {
     if !present(s, 3 * p + 1) {
         return false;
@@ -56,8 +57,8 @@ fn kind_right(s: &[u8], p: usize) -> bool
 }
 
 fn offset_right(s: &[u8], p: usize, start: usize) -> bool
-    requires { ⌜ (p < 4) × (start ≡ startOf (now s) p) ⌝ }
-    ensures { λ r. ⌜ r ≡ offsetRight (now (s .entry)) p ⌝ }
+    requires { ⌜ (p < 4) × (start ≡ startOf places (now s) p) ⌝ }
+    ensures { λ r. ⌜ r ≡ offsetRight places (now (s .entry)) p ⌝ }
 {
     if !present(s, 3 * p + 2) {
         return false;
@@ -67,7 +68,7 @@ fn offset_right(s: &[u8], p: usize, start: usize) -> bool
 
 fn count_right(s: &[u8], p: usize) -> bool
     requires { ⌜ p < 4 ⌝ }
-    ensures { λ r. ⌜ r ≡ countRight (now (s .entry)) p ⌝ }
+    ensures { λ r. ⌜ r ≡ countRight places (now (s .entry)) p ⌝ }
 {
     if !present(s, 3 * p + 3) {
         return false;
@@ -78,8 +79,8 @@ fn count_right(s: &[u8], p: usize) -> bool
 
 // The first wrong of the three words of place p, whose body is to start at start: 0, 1 or 2; 3 where none is wrong.
 fn wrong_in_entry(s: &[u8], p: usize, start: usize) -> usize
-    requires { ⌜ (p < 4) × (start ≡ startOf (now s) p) ⌝ }
-    ensures { λ r. ⌜ r ≡ firstNot 3 (entryRight (now (s .entry)) p) ⌝ }
+    requires { ⌜ (p < 4) × (start ≡ startOf places (now s) p) ⌝ }
+    ensures { λ r. ⌜ r ≡ firstNot 3 (entryRight places (now (s .entry)) p) ⌝ }
 {
     if !kind_right(s, p) {
         return 0;
@@ -95,16 +96,16 @@ fn wrong_in_entry(s: &[u8], p: usize, start: usize) -> usize
 
 // Where the body of place p ends, if it starts at start.
 fn end_of(s: &[u8], p: usize, start: usize) -> usize
-    requires { ⌜ (p < 4) × (start ≡ startOf (now s) p) × (start ≤ 65536) × (countRight (now s) p ≡ true) ⌝ }
-    ensures { λ r. ⌜ (r ≡ startOf (now (s .entry)) (suc p)) × (r ≤ start + 16384) ⌝ }
+    requires { ⌜ (p < 4) × (start ≡ startOf places (now s) p) × (start ≤ 65536) × (countRight places (now s) p ≡ true) ⌝ }
+    ensures { λ r. ⌜ (r ≡ startOf places (now (s .entry)) (suc p)) × (r ≤ start + 16384) ⌝ }
 {
     let l = layout_of(s, p);
     start + 8 * (l.size * word_at(s, 3 * p + 3))
 }
 
 fn length_right(s: &[u8], end: usize) -> bool
-    requires { ⌜ end ≡ startOf (now s) 4 ⌝ }
-    ensures { λ r. ⌜ r ≡ lengthRight (now (s .entry)) ⌝ }
+    requires { ⌜ end ≡ startOf places (now s) 4 ⌝ }
+    ensures { λ r. ⌜ r ≡ lengthRight places (now (s .entry)) ⌝ }
 {
     if 65536 < s.len() {
         return false;
@@ -114,7 +115,7 @@ fn length_right(s: &[u8], end: usize) -> bool
 
 // The first wrong word of the contents table, 0 to 12; 13 where only the length is wrong, and 14 where nothing is.
 pub fn wrong_word(s: &[u8]) -> usize
-    ensures { λ r. ⌜ r ≡ wrongWord (now (s .entry)) ⌝ }
+    ensures { λ r. ⌜ r ≡ wrongWord places (now (s .entry)) ⌝ }
 {
     if !sections_right(s) {
         return 0;

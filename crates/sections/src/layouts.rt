@@ -1,8 +1,20 @@
 // The shape of a session file, as data: what may stand in each of the four places. A further kind is a further entry.
 ghost use mathlib.Core.Path.{_≡_};
 ghost use Prim.Native.Nat.{_<_};
-ghost use Rattle.sections.specs.Layouts.{station, source, orientation, pass, noLayout, layoutIn};
+ghost use Rattle.sections.specs.Layouts.{station, source, orientation, pass, noLayout, layoutIn, places};
 ghost use Rattle.sections.specs.Code.{shapeOf};
+use fields::ranges::COORDINATE;
+use fields::ranges::DECLINATION;
+use fields::ranges::ID;
+use fields::ranges::MILLISECOND;
+use fields::ranges::MJD;
+use fields::ranges::POLE;
+use fields::ranges::RIGHT_ASCENSION;
+use fields::ranges::SAMPLES;
+use fields::ranges::STEP;
+use fields::ranges::TAI_UTC;
+use fields::ranges::TOLERANCE;
+use fields::ranges::UT1_UTC;
 
 // A kind's records: how many numbers each has, the least and the greatest count, their order, and each number's range, 0 beyond the last.
 pub struct Shape {
@@ -22,8 +34,26 @@ fn station() -> Shape
         fewest: 1,
         most: 64,
         order: 1,
-        low: [1, -6400000000, -6400000000, -6400000000, 0, 0, 0, 0],
-        high: [65535, 6400000000, 6400000000, 6400000000, 0, 0, 0, 0],
+        low: [
+            ID.low,
+            COORDINATE.low,
+            COORDINATE.low,
+            COORDINATE.low,
+            0,
+            0,
+            0,
+            0,
+        ],
+        high: [
+            ID.high,
+            COORDINATE.high,
+            COORDINATE.high,
+            COORDINATE.high,
+            0,
+            0,
+            0,
+            0,
+        ],
     }
 }
 
@@ -35,8 +65,17 @@ fn source() -> Shape
         fewest: 1,
         most: 256,
         order: 1,
-        low: [1, 0, -1073741824, 0, 0, 0, 0, 0],
-        high: [65535, 4294967295, 1073741824, 0, 0, 0, 0, 0],
+        low: [ID.low, RIGHT_ASCENSION.low, DECLINATION.low, 0, 0, 0, 0, 0],
+        high: [
+            ID.high,
+            RIGHT_ASCENSION.high,
+            DECLINATION.high,
+            0,
+            0,
+            0,
+            0,
+            0,
+        ],
     }
 }
 
@@ -48,8 +87,26 @@ fn orientation() -> Shape
         fewest: 2,
         most: 64,
         order: 2,
-        low: [41317, -1000000, -1000000, -900000000, 0, 0, 0, 0],
-        high: [69806, 1000000, 1000000, 900000000, 99, 0, 0, 0],
+        low: [
+            MJD.low,
+            POLE.low,
+            POLE.low,
+            UT1_UTC.low,
+            TAI_UTC.low,
+            0,
+            0,
+            0,
+        ],
+        high: [
+            MJD.high,
+            POLE.high,
+            POLE.high,
+            UT1_UTC.high,
+            TAI_UTC.high,
+            0,
+            0,
+            0,
+        ],
     }
 }
 
@@ -61,8 +118,26 @@ fn pass() -> Shape
         fewest: 1,
         most: 64,
         order: 0,
-        low: [1, 1, 1, 41317, 0, 1, 1, 0],
-        high: [65535, 65535, 65535, 69806, 86399999, 3600000, 4096, 1000000],
+        low: [
+            ID.low,
+            ID.low,
+            ID.low,
+            MJD.low,
+            MILLISECOND.low,
+            STEP.low,
+            SAMPLES.low,
+            TOLERANCE.low,
+        ],
+        high: [
+            ID.high,
+            ID.high,
+            ID.high,
+            MJD.high,
+            MILLISECOND.high,
+            STEP.high,
+            SAMPLES.high,
+            TOLERANCE.high,
+        ],
     }
 }
 
@@ -82,7 +157,7 @@ fn no_layout() -> Shape
 // The layout of a kind in a place; one of no fields where that kind cannot stand there.
 pub fn layout_in(place: usize, kind: usize) -> Shape
     requires { ⌜ place < 4 ⌝ }
-    ensures { λ r. ⌜ r ≡ shapeOf (layoutIn place kind) ⌝ }
+    ensures { λ r. ⌜ r ≡ shapeOf (layoutIn places place kind) ⌝ }
 {
     if place == 0 {
         if kind == 1 {

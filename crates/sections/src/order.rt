@@ -8,6 +8,7 @@ ghost use lib.Signed.{ltZ};
 ghost use Rattle.whole.specs.Each.{firstNot};
 ghost use Rattle.sections.specs.Code.{stepBy};
 ghost use Rattle.sections.specs.File.{contentsRight, countOf, eqZ, steps, stepRight, orderRight};
+ghost use Rattle.sections.specs.Layouts.{places};
 use crate::contents::layout_of;
 use text::words::number_at;
 use text::words::word_at;
@@ -68,8 +69,8 @@ fn first_step(s: &[u8], at: usize, n: usize, size: usize, o: u64) -> usize
 
 // The first record of place p behind which the next does not keep the order o, or the number of the last.
 pub fn wrong_step(s: &[u8], o: u64, p: usize) -> usize
-    requires { ⌜ (contentsRight (now s) ≡ true) × (p < 4) ⌝ }
-    ensures { λ r. ⌜ r ≡ firstNot (countOf (now (s .entry)) p - 1) (stepRight (now (s .entry)) o p) ⌝ }
+    requires { ⌜ (contentsRight places (now s) ≡ true) × (p < 4) ⌝ }
+    ensures { λ r. ⌜ r ≡ firstNot (countOf (now (s .entry)) p - 1) (stepRight places (now (s .entry)) o p) ⌝ }
 {
     let l = layout_of(s, p);
     first_step(
@@ -82,8 +83,8 @@ pub fn wrong_step(s: &[u8], o: u64, p: usize) -> usize
 }
 
 fn order_right(s: &[u8], o: u64, p: usize) -> bool
-    requires { ⌜ (contentsRight (now s) ≡ true) × (p < 4) ⌝ }
-    ensures { λ r. ⌜ r ≡ orderRight (now (s .entry)) o p ⌝ }
+    requires { ⌜ (contentsRight places (now s) ≡ true) × (p < 4) ⌝ }
+    ensures { λ r. ⌜ r ≡ orderRight places (now (s .entry)) o p ⌝ }
 {
     let l = layout_of(s, p);
     if l.order != o {
@@ -94,8 +95,8 @@ fn order_right(s: &[u8], o: u64, p: usize) -> bool
 
 // The first place that is to keep the order o and does not, or 4.
 pub fn wrong_order(s: &[u8], o: u64) -> usize
-    requires { ⌜ contentsRight (now s) ≡ true ⌝ }
-    ensures { λ r. ⌜ r ≡ firstNot 4 (orderRight (now (s .entry)) o) ⌝ }
+    requires { ⌜ contentsRight places (now s) ≡ true ⌝ }
+    ensures { λ r. ⌜ r ≡ firstNot 4 (orderRight places (now (s .entry)) o) ⌝ }
 {
     let mut p: usize = 0;
     while p < 4 {

@@ -6,6 +6,7 @@ ghost use lib.ListN.{length};
 ghost use Rattle.whole.specs.Each.{firstNot};
 ghost use Rattle.sections.specs.Code.{insideBy, recordBy};
 ghost use Rattle.sections.specs.File.{contentsRight, countOf, recordRight, sectionRight};
+ghost use Rattle.sections.specs.Layouts.{places};
 use crate::contents::layout_of;
 use text::words::number_at;
 use text::words::word_at;
@@ -58,8 +59,8 @@ fn first_record(
 
 // The first record of place p with a field out of its range, or the number of its records.
 pub fn wrong_record(s: &[u8], p: usize) -> usize
-    requires { ⌜ (contentsRight (now s) ≡ true) × (p < 4) ⌝ }
-    ensures { λ r. ⌜ r ≡ firstNot (countOf (now (s .entry)) p) (recordRight (now (s .entry)) p) ⌝ }
+    requires { ⌜ (contentsRight places (now s) ≡ true) × (p < 4) ⌝ }
+    ensures { λ r. ⌜ r ≡ firstNot (countOf (now (s .entry)) p) (recordRight places (now (s .entry)) p) ⌝ }
 {
     let l = layout_of(s, p);
     let size = l.size;
@@ -76,16 +77,16 @@ pub fn wrong_record(s: &[u8], p: usize) -> usize
 }
 
 fn section_right(s: &[u8], p: usize) -> bool
-    requires { ⌜ (contentsRight (now s) ≡ true) × (p < 4) ⌝ }
-    ensures { λ r. ⌜ r ≡ sectionRight (now (s .entry)) p ⌝ }
+    requires { ⌜ (contentsRight places (now s) ≡ true) × (p < 4) ⌝ }
+    ensures { λ r. ⌜ r ≡ sectionRight places (now (s .entry)) p ⌝ }
 {
     wrong_record(s, p) == word_at(s, 3 * p + 3)
 }
 
 // The first place with a field out of its range, or 4.
 pub fn wrong_section(s: &[u8]) -> usize
-    requires { ⌜ contentsRight (now s) ≡ true ⌝ }
-    ensures { λ r. ⌜ r ≡ firstNot 4 (sectionRight (now (s .entry))) ⌝ }
+    requires { ⌜ contentsRight places (now s) ≡ true ⌝ }
+    ensures { λ r. ⌜ r ≡ firstNot 4 (sectionRight places (now (s .entry))) ⌝ }
 {
     let mut p: usize = 0;
     while p < 4 {

@@ -5,6 +5,7 @@ ghost use lib.ListN.{length};
 ghost use lib.IntN.{pos};
 ghost use Rattle.text.specs.Words.{numberAt};
 ghost use Rattle.sections.specs.File.{refusalOf, countOf, sizeOf, recordByte};
+ghost use Rattle.sections.specs.Layouts.{places};
 use crate::contents::layout_of;
 use crate::contents::wrong_word;
 use crate::order::wrong_order;
@@ -50,7 +51,7 @@ pub fn count_of(s: &[u8], p: usize) -> usize
 // The byte at which record i of place p starts.
 pub fn record_byte(s: &[u8], p: usize, i: usize) -> usize
     requires { ⌜ (refusalOf (now s) ≡ 0) × (p < 4) × (i < countOf (now s) p) ⌝ }
-    ensures { λ r. ⌜ (r ≡ recordByte (now (s .entry)) p i) × (r + 8 * sizeOf (now (s .entry)) p ≤ length (now (s .entry))) ⌝ }
+    ensures { λ r. ⌜ (r ≡ recordByte places (now (s .entry)) p i) × (r + 8 * sizeOf places (now (s .entry)) p ≤ length (now (s .entry))) ⌝ }
 {
     let l = layout_of(s, p);
     word_at(s, 3 * p + 2) + 8 * (l.size * i)

@@ -1,13 +1,13 @@
--- Laws of `firstValues`. Assumes nothing.
+-- Laws of `firstValues`: the values of a rule, and such values written one after another from the start of a room. Assumes nothing.
 use mathlib.Core.Path.{_≡_, refl, sym, ap, ap₂, _∙_}
 use mathlib.Core.List.{List, [], _∷_, _++_, append-assoc, append-nil}
-use Prim.Native.Nat.{ℕ, zero, suc, _+_, _<_}
+use Prim.Native.Nat.{ℕ, zero, suc, _+_, _≤_, _<_}
 use native.Mathlib.Nat.{add-zero, add-suc, not-suc-le-zero, le-of-suc-le-suc}
 use native.Mathlib.Omega.{arith}
 use native.Mathlib.Decide.{ℕ-discrete}
 use lib.Arith.{lt-of-le-ne}
-use lib.ListN.{length, getD, length-append, List·getD-append}
-use lib.Seq.{getD-append-add}
+use lib.ListN.{length, drop, getD, set, length-append, length-drop, List·getD-append}
+use lib.Seq.{drop-cons, getD-append-add, set-at}
 use lib.IntN.{ℤ, pos}
 use Rattle.whole.specs.Values.{firstValues}
 
@@ -41,3 +41,27 @@ values-join a (suc b) g =
     sym (append-assoc (firstValues a g) (firstValues b (λ (k : ℕ). g (a + k))) (g (a + b) ∷ []))
     ∙ ap (λ (x : List ℤ). x ++ (g (a + b) ∷ [])) (values-join a b g)
     ∙ ap (λ (n : ℕ). firstValues n g) (sym (add-suc a b))
+
+-- ---- written from the start of a room
+
+-- the room keeps its length
+pub room-length : (i : ℕ) (f : ℕ → ℤ) (room : List ℤ) → i ≤ length room → length (firstValues i f ++ drop i room) ≡ length room
+room-length i f room h =
+    length-append (firstValues i f) (drop i room) ∙ omega (arith, values-long i f, length-drop i room)
+
+-- none is written yet
+pub value-none : (f : ℕ → ℤ) (room : List ℤ) → room ≡ firstValues 0 f ++ drop 0 room
+unfolding firstValues
+value-none f room = refl
+
+-- one more
+pub value-next : (i : ℕ) (f : ℕ → ℤ) (room : List ℤ) → i < length room → set (firstValues i f ++ drop i room) i (f i) ≡ firstValues (suc i) f ++ drop (suc i) room
+unfolding firstValues
+value-next i f room h =
+    ap (λ (t : List ℤ). set (firstValues i f ++ t) i (f i)) (drop-cons room i (pos 0) h)
+    ∙ set-at (firstValues i f) (getD room i (pos 0)) (drop (suc i) room) (f i) i (values-long i f)
+    ∙ sym (append-assoc (firstValues i f) (f i ∷ []) (drop (suc i) room))
+
+-- value j of them
+pub sample-at : (n : ℕ) (f : ℕ → ℤ) (rest : List ℤ) (j : ℕ) → j < n → getD (firstValues n f ++ rest) j (pos 0) ≡ f j
+sample-at n f rest j h = List·getD-append (firstValues n f) rest (pos 0) j (rw (values-long n f) h) ∙ value-at n j f h

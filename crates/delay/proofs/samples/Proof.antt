@@ -31,7 +31,7 @@ use Rattle.delay.specs.Sessions.{earthIn, sampleEpoch}
 use Rattle.delay.proofs.Accepted.{pass-in, names-in}
 use Rattle.delay.proofs.Epochs.{samples-back, samples-read, samples-cast}
 use Rattle.delay.proofs.Lowest.{file-first, index-first, pass-names-first, days-first}
-use Rattle.delay.proofs.Written.{room-length}
+use Rattle.whole.proofs.Values.{room-length}
 use Rattle.delay.proofs.samples.Statement.{statement}
 use Rattle.delay.proofs.samples.Tie as tie
 

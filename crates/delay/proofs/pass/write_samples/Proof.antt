@@ -18,7 +18,7 @@ use Rattle.delay.specs.Calls.{samplesOf, allCovered}
 use Rattle.delay.specs.Keeping.{TrueKept, delayAt}
 use Rattle.delay.specs.Sessions.{covers, sampleEpoch}
 use Rattle.delay.proofs.Epochs.{samples-count, samples-read, samples-cast, mjd-small, sample-ms}
-use Rattle.delay.proofs.Written.{room-length, value-none, value-next}
+use Rattle.whole.proofs.Values.{room-length, value-none, value-next}
 use Rattle.delay.proofs.pass.write_samples.Statement.{statement}
 use Rattle.delay.proofs.pass.write_samples.Tie as tie
 

@@ -10,9 +10,11 @@ use Rattle.sections.proofs.Walk.{count-present, body-small}
 use borrow.Author.Needs.{needs}
 use Rattle.sections.proofs.contents.end_of.Statement.{statement}
 use Rattle.sections.proofs.contents.end_of.Tie as tie
+use Rattle.sections.specs.Layouts.{places}
+use Rattle.sections.proofs.Shapes.{today}
 
 layout-of-requires : tie.Need-layout-of-requires
-layout-of-requires c κs = let h = count-present _ _ (c .before .pre .3) in (search needs, omega arith)
+layout-of-requires c κs = let h = count-present today _ _ (c .before .pre .3) in (search needs, omega arith)
 
 mul-word-at : tie.Need-mul-word-at
 mul-word-at c = search needs
@@ -21,35 +23,35 @@ add-word-at : tie.Need-add-word-at
 add-word-at c = search needs
 
 word-at-requires : tie.Need-word-at-requires
-word-at-requires c κs = count-present _ _ (c .before .before .pre .3)
+word-at-requires c κs = count-present today _ _ (c .before .before .pre .3)
 
 mul-result : tie.Need-mul-result
 unfolding shapeOf
 mul-result c =
     let st = c .before .before .before .before in
-    let e : c .before .before .layout-of .result .size * c .before .word-at .result ≡ sizeOf (st .args .s .now) (st .args .p) * countOf (st .args .s .now) (st .args .p) = ap₂ _*_ (ap (λ (l : Shape). l .size) (c .before .before .layout-of .ensures)) (c .before .word-at .ensures) in
-    omega (arith, e, body-small (st .args .s .now) (st .args .p) (st .pre .3))
+    let e : c .before .before .layout-of .result .size * c .before .word-at .result ≡ sizeOf places (st .args .s .now) (st .args .p) * countOf (st .args .s .now) (st .args .p) = ap₂ _*_ (ap (λ (l : Shape). l .size) (c .before .before .layout-of .ensures)) (c .before .word-at .ensures) in
+    omega (arith, e, body-small today (st .args .s .now) (st .args .p) (st .pre .3))
 
 mul-result-2 : tie.Need-mul-result-2
 unfolding shapeOf
 mul-result-2 c =
     let st = c .before .before .before .before in
-    let e : c .before .before .layout-of .result .size * c .before .word-at .result ≡ sizeOf (st .args .s .now) (st .args .p) * countOf (st .args .s .now) (st .args .p) = ap₂ _*_ (ap (λ (l : Shape). l .size) (c .before .before .layout-of .ensures)) (c .before .word-at .ensures) in
-    omega (arith, e, body-small (st .args .s .now) (st .args .p) (st .pre .3))
+    let e : c .before .before .layout-of .result .size * c .before .word-at .result ≡ sizeOf places (st .args .s .now) (st .args .p) * countOf (st .args .s .now) (st .args .p) = ap₂ _*_ (ap (λ (l : Shape). l .size) (c .before .before .layout-of .ensures)) (c .before .word-at .ensures) in
+    omega (arith, e, body-small today (st .args .s .now) (st .args .p) (st .pre .3))
 
 add-result : tie.Need-add-result
 unfolding shapeOf
 add-result c =
     let st = c .before .before .before .before in
-    let e : c .before .before .layout-of .result .size * c .before .word-at .result ≡ sizeOf (st .args .s .now) (st .args .p) * countOf (st .args .s .now) (st .args .p) = ap₂ _*_ (ap (λ (l : Shape). l .size) (c .before .before .layout-of .ensures)) (c .before .word-at .ensures) in
-    omega (arith, e, st .pre .2, body-small (st .args .s .now) (st .args .p) (st .pre .3))
+    let e : c .before .before .layout-of .result .size * c .before .word-at .result ≡ sizeOf places (st .args .s .now) (st .args .p) * countOf (st .args .s .now) (st .args .p) = ap₂ _*_ (ap (λ (l : Shape). l .size) (c .before .before .layout-of .ensures)) (c .before .word-at .ensures) in
+    omega (arith, e, st .pre .2, body-small today (st .args .s .now) (st .args .p) (st .pre .3))
 
 returns : tie.Need-returns
 unfolding shapeOf startOf
 returns c =
     let st = c .before .before .before .before in
-    let e : c .before .before .layout-of .result .size * c .before .word-at .result ≡ sizeOf (st .args .s .now) (st .args .p) * countOf (st .args .s .now) (st .args .p) = ap₂ _*_ (ap (λ (l : Shape). l .size) (c .before .before .layout-of .ensures)) (c .before .word-at .ensures) in
-    let b = body-small (st .args .s .now) (st .args .p) (st .pre .3) in
+    let e : c .before .before .layout-of .result .size * c .before .word-at .result ≡ sizeOf places (st .args .s .now) (st .args .p) * countOf (st .args .s .now) (st .args .p) = ap₂ _*_ (ap (λ (l : Shape). l .size) (c .before .before .layout-of .ensures)) (c .before .word-at .ensures) in
+    let b = body-small today (st .args .s .now) (st .args .p) (st .pre .3) in
     (ap₂ (λ (x y : ℕ). x + 8 * y) (st .pre .1) e, omega (arith, e, b))
 
 pub end-of-spec : {M : Type 1} → statement M

@@ -5,7 +5,7 @@ use Rattle.sections.specs.Code.{shapeOf}
 use Rattle.sections.specs.File.{kindRight}
 use Rattle.sections.specs.declared.layouts.Shape.{Shape}
 use Rattle.whole.proofs.Tests.{failed, passed}
-use Rattle.sections.proofs.Shapes.{stands-some}
+use Rattle.sections.proofs.Shapes.{stands-some, today}
 use borrow.Author.Needs.{needs}
 use Rattle.sections.proofs.contents.kind_right.Statement.{statement}
 use Rattle.sections.proofs.contents.kind_right.Tie as tie
@@ -28,7 +28,7 @@ layout-of-requires c κs = (search needs, leb-true _ _ (passed (c .before .prese
 
 returns-2 : tie.Need-returns-2
 unfolding kindRight shapeOf
-returns-2 c = rw (passed (c .before .before .before .present .ensures) (c .before .before .if1 .left)) (ap (λ (l : Shape). ltb 0 (l .size)) (c .before .layout-of .ensures) ∙ sym (stands-some _ _))
+returns-2 c = rw (passed (c .before .before .before .present .ensures) (c .before .before .if1 .left)) (ap (λ (l : Shape). ltb 0 (l .size)) (c .before .layout-of .ensures) ∙ sym (stands-some today _ _))
 
 pub kind-right-spec : {M : Type 1} → statement M
 kind-right-spec =

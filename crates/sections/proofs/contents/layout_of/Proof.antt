@@ -1,6 +1,6 @@
 use mathlib.Core.Path.{ap, _∙_}
 use Prim.Native.Nat.{ℕ}
-use Rattle.sections.specs.Layouts.{layoutIn}
+use Rattle.sections.specs.Layouts.{layoutIn, places}
 use Rattle.sections.specs.Code.{shapeOf}
 use borrow.Author.Needs.{needs}
 use Rattle.sections.proofs.contents.layout_of.Statement.{statement}
@@ -19,7 +19,7 @@ layout-in-requires : tie.Need-layout-in-requires
 layout-in-requires c κs = search needs
 
 returns : tie.Need-returns
-returns c = c .layout-in .ensures ∙ ap (λ (k : ℕ). shapeOf (layoutIn (c .before .before .before .args .p) k)) (c .before .word-at .ensures)
+returns c = c .layout-in .ensures ∙ ap (λ (k : ℕ). shapeOf (layoutIn places (c .before .before .before .args .p) k)) (c .before .word-at .ensures)
 
 pub layout-of-spec : {M : Type 1} → statement M
 layout-of-spec =

@@ -11,11 +11,12 @@ use Rattle.sections.proofs.Sound.{table-long, counts-one}
 use borrow.Author.Needs.{needs}
 use Rattle.sections.proofs.order.order_right.Statement.{statement}
 use Rattle.sections.proofs.order.order_right.Tie as tie
+use Rattle.sections.proofs.Shapes.{today}
 
 layout-of-requires : tie.Need-layout-of-requires
 layout-of-requires c κs =
     let st = c .before in
-    (search needs, omega (arith, table-long (st .args .s .now) (st .pre .0) (st .args .p) (st .pre .1)))
+    (search needs, omega (arith, table-long today (st .args .s .now) (st .pre .0) (st .args .p) (st .pre .1)))
 
 returns : tie.Need-returns
 unfolding shapeOf orderRight
@@ -35,12 +36,12 @@ add-word-at c = search needs
 word-at-requires : tie.Need-word-at-requires
 word-at-requires c κs =
     let st = c .before .before .before .before .before in
-    omega (arith, table-long (st .args .s .now) (st .pre .0) (st .args .p) (st .pre .1))
+    omega (arith, table-long today (st .args .s .now) (st .pre .0) (st .args .p) (st .pre .1))
 
 sub-result : tie.Need-sub-result
 sub-result c =
     let st = c .before .before .before .before .before .before in
-    omega (arith, c .word-at .ensures, counts-one (st .args .s .now) (st .pre .0) (st .args .p) (st .pre .1))
+    omega (arith, c .word-at .ensures, counts-one today (st .args .s .now) (st .pre .0) (st .args .p) (st .pre .1))
 
 returns-2 : tie.Need-returns-2
 unfolding shapeOf orderRight

@@ -8,9 +8,10 @@ use Rattle.whole.proofs.Tests.{failed, passed}
 use Rattle.whole.proofs.Each.{first-zero, first-next, first-hit}
 use Rattle.sections.proofs.order.wrong_order.Statement.{statement}
 use Rattle.sections.proofs.order.wrong_order.Tie as tie
+use Rattle.sections.specs.Layouts.{places}
 
 abbrev Inv-loop : tie.InvT-loop
-Inv-loop s o p₀ p = (p ≤ 4) × (firstNot p (orderRight s o) ≡ p)
+Inv-loop s o p₀ p = (p ≤ 4) × (firstNot p (orderRight places s o) ≡ p)
 
 abbrev μ-loop : tie.MeasureT-loop
 μ-loop s o p₀ p = 4 - p

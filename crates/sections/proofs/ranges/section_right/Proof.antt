@@ -7,6 +7,7 @@ use Rattle.sections.proofs.Sound.{table-long}
 use borrow.Author.Needs.{needs}
 use Rattle.sections.proofs.ranges.section_right.Statement.{statement}
 use Rattle.sections.proofs.ranges.section_right.Tie as tie
+use Rattle.sections.proofs.Shapes.{today}
 
 wrong-record-requires : tie.Need-wrong-record-requires
 wrong-record-requires c κs = search needs
@@ -20,7 +21,7 @@ add-word-at c = search needs
 word-at-requires : tie.Need-word-at-requires
 word-at-requires c κs =
     let st = c .before .before in
-    omega (arith, table-long (st .args .s .now) (st .pre .0) (st .args .p) (st .pre .1))
+    omega (arith, table-long today (st .args .s .now) (st .pre .0) (st .args .p) (st .pre .1))
 
 returns : tie.Need-returns
 unfolding sectionRight

@@ -8,9 +8,10 @@ use Rattle.whole.proofs.Tests.{failed, passed}
 use Rattle.whole.proofs.Each.{first-zero, first-next, first-hit}
 use Rattle.sections.proofs.ranges.wrong_section.Statement.{statement}
 use Rattle.sections.proofs.ranges.wrong_section.Tie as tie
+use Rattle.sections.specs.Layouts.{places}
 
 abbrev Inv-loop : tie.InvT-loop
-Inv-loop s p₀ p = (p ≤ 4) × (firstNot p (sectionRight s) ≡ p)
+Inv-loop s p₀ p = (p ≤ 4) × (firstNot p (sectionRight places s) ≡ p)
 
 abbrev μ-loop : tie.MeasureT-loop
 μ-loop s p₀ p = 4 - p
