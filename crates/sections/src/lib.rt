@@ -3,4 +3,5 @@ pub mod contents;
 pub mod layouts;
 pub mod order;
 pub mod ranges;
+pub mod records;
 pub mod refusal;
