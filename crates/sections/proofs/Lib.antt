@@ -4,3 +4,4 @@ pub mod Numbers
 pub mod Sound
 pub mod Accepted
 pub mod Rows
+pub mod TwoTables

@@ -1,8 +1,8 @@
 -- The shape of a session file, as data. Document 01, 'Session file': the table of kinds. The contents table, the length, the ranges, the order, the fault and
 -- the writer all go by a table of places; `places` is today's.
-use Prim.Native.Nat.{ℕ}
+use Prim.Native.Nat.{ℕ, zero, suc}
 use mathlib.Core.Bool.{Bool, true, false, cond}
-use mathlib.Core.List.{List, [], _∷_}
+use mathlib.Core.List.{List, [], _∷_, _++_}
 use lib.ListN.{getD}
 use lib.Dec.{eqb}
 use Rattle.fields.specs.declared.ranges.Range.{Range}
@@ -51,6 +51,12 @@ Table = List (List Layout)
 -- the four places of document 01
 unfoldable pub places : Table
 places = (station ∷ []) ∷ (source ∷ []) ∷ (orientation ∷ []) ∷ (pass ∷ []) ∷ []
+
+-- the table with a kind more in place p
+unfoldable pub withKind : Table → ℕ → Layout → Table
+withKind [] p l = []
+withKind (ls ∷ rest) zero l = (ls ++ (l ∷ [])) ∷ rest
+withKind (ls ∷ rest) (suc p) l = ls ∷ withKind rest p l
 
 -- ---- the layout of a kind
 
