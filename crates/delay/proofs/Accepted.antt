@@ -10,7 +10,7 @@ use lib.IntN.{ℤ, pos}
 use Rattle.whole.specs.Whole.{∣_∣}
 use Rattle.whole.specs.Ranges.{In}
 use Rattle.whole.proofs.Linear.{and-true}
-use Rattle.earth.specs.Ranges.{InDay}
+use Rattle.fields.specs.Ranges.{Holds, mjd}
 use Rattle.sections.specs.File.{refusalOf, countOf}
 use Rattle.session.specs.declared.Station.{Station}
 use Rattle.session.specs.declared.Source.{Source}
@@ -72,8 +72,8 @@ module _ (s : List ℕ) (accepted : refusalOf s ≡ 0) where
       subst InRecord (sym (day-by s z l)) (day-in (dayOf s (placeBy s 2 z)) (day-ranges s accepted (placeBy s 2 z) l))
 
   -- a day whose record is there lies in the file's range
-  pub has-day-in : (z : ℤ) → ltb (placeBy s 2 z) (countOf s 2) ≡ true → InDay z
+  pub has-day-in : (z : ℤ) → ltb (placeBy s 2 z) (countOf s 2) ≡ true → Holds mjd z
   unfolding dayOf
   has-day-in z e =
       let l = ltb-true (placeBy s 2 z) (countOf s 2) e in
-      subst InDay (place-has s 2 z l) (natural-in (day-ranges s accepted (placeBy s 2 z) l .mjd))
+      subst (Holds mjd) (place-has s 2 z l) (natural-in (day-ranges s accepted (placeBy s 2 z) l .mjd))

@@ -15,7 +15,7 @@ use Rattle.whole.specs.Whole.{posPart, negPart, ∣_∣}
 use Rattle.whole.proofs.Linear.{zarith, and-true, add-law, eq⇒}
 use Rattle.whole.proofs.Machine.{var, is}
 use Rattle.earth.specs.declared.time.Epoch.{Epoch}
-use Rattle.earth.specs.Ranges.{InDay, InMs}
+use Rattle.fields.specs.Ranges.{Holds, mjd, millisecond}
 use Rattle.earth.proofs.Floors.{in-abs}
 use Rattle.whole.specs.Each.{allBelow}
 use Rattle.sections.specs.File.{refusalOf, countOf, fieldAt}
@@ -40,7 +40,7 @@ module _ (s : List ℕ) (d : ℤ) (accepted : refusalOf s ≡ 0) (c : covers s d
   unfolding covers
   both = and-true (hasDay s d) (hasDay s (d +ℤ pos 1)) c
 
-  pub day-in : InDay d
+  pub day-in : Holds mjd d
   day-in = has-day-in s accepted d (both .0)
 
   pub day-small : ∣ d ∣ ≤ 1000000
@@ -62,7 +62,7 @@ module _ (s : List ℕ) (e : Epoch) (accepted : refusalOf s ≡ 0) (c : covers s
   earth-by = ap (λ (x : Days). earthOf (x .today) (x .next) e) are
 
 -- the earth at an epoch that is covered
-pub earth-in-size : (s : List ℕ) (e : Epoch) → refusalOf s ≡ 0 → covers s (e .day) ≡ true → InMs (e .ms) → InEarth (earthIn s e)
+pub earth-in-size : (s : List ℕ) (e : Epoch) → refusalOf s ≡ 0 → covers s (e .day) ≡ true → Holds millisecond (e .ms) → InEarth (earthIn s e)
 earth-in-size s e h c m =
     let d = daysFrom s (e .day) in
     subst InEarth (earth-by s e h c d refl) (earth-size (d .today) (d .next) e (today-in s e h c d refl) (next-in s e h c d refl) m)

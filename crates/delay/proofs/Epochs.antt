@@ -15,7 +15,8 @@ use Rattle.whole.specs.Ranges.{In}
 use Rattle.whole.proofs.Linear.{zarith, parts-le, abs-add, mul-posPart, mul-negPart, add-law}
 use Rattle.whole.proofs.Rounding.{mod-below, floor-abs, floor-unique}
 use Rattle.whole.proofs.Quote.{⟨_⟩, #, _⊕_, _⊗_, by≡, by≤, by<}
-use Rattle.earth.specs.Ranges.{InMs, InAdd}
+use Rattle.fields.specs.Ranges.{Holds, millisecond}
+use Rattle.earth.specs.Ranges.{added}
 use Rattle.earth.specs.declared.time.Epoch.{Epoch}
 use Rattle.earth.specs.Epoch.{laterOf}
 use Rattle.earth.proofs.Epochs.{later-ms, later-twice, later-day}
@@ -54,7 +55,7 @@ pub mjd-small : (p : Pass) → InPass p → ∣ toZ w64 (ofZ w64 (p .mjd)) ∣ �
 mjd-small p h = rw (mjd-back p h) (le-trans (in-abs (p .mjd) (h .day)) (lit≤ tt))
 
 -- what is added fits the rule of epochs
-pub add-in : (p : Pass) (i : ℕ) → InPass p → i < 4096 → InAdd (pos i *ℤ p .step)
+pub add-in : (p : Pass) (i : ℕ) → InPass p → i < 4096 → Holds added (pos i *ℤ p .step)
 add-in p i h l =
     let k = h .step in
     let m : i * posPart (p .step) ≤ 4095 * 3600000 = mul-le-mul {n₁ = i} {m₁ = posPart (p .step)} {n₂ = 4095} {m₂ = 3600000} (omega arith) (k .p-hi) in
@@ -67,7 +68,7 @@ add-in p i h l =
       n-hi = omega arith;
     }
 
-pub sample-ms : (p : Pass) (i : ℕ) → InMs (sampleEpoch p i .ms)
+pub sample-ms : (p : Pass) (i : ℕ) → Holds millisecond (sampleEpoch p i .ms)
 unfolding sampleEpoch laterOf
 sample-ms p i =
     let z = p .ms +ℤ pos i *ℤ p .step in

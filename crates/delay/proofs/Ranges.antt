@@ -1,16 +1,17 @@
 -- What the range tests of the calls give. Assumes nothing.
 use mathlib.Core.Path.{_≡_}
 use mathlib.Core.Bool.{Bool, true, false, _&&_}
-use lib.IntN.{ℤ, pos}
-use Rattle.whole.proofs.Linear.{in-yes, and-true, no-ft}
-use Rattle.earth.specs.Ranges.{InDay, InMs, dayOk, msOk}
+use lib.IntN.{ℤ}
+use Rattle.whole.proofs.Linear.{and-true, no-ft}
+use Rattle.fields.specs.Ranges.{inside, Holds, mjd, millisecond}
+use Rattle.fields.proofs.Inside.{inside-holds}
 
-pub epoch-in : (day ms : ℤ) → (dayOk day && msOk ms) ≡ true → InDay day × InMs ms
+pub epoch-in : (day ms : ℤ) → (inside mjd day && inside millisecond ms) ≡ true → Holds mjd day × Holds millisecond ms
 epoch-in day ms e =
-    let h = and-true (dayOk day) (msOk ms) e in
-    (in-yes (pos 41317) (pos 69806) day (h .0), in-yes (pos 0) (pos 86399999) ms (h .1))
+    let h = and-true (inside mjd day) (inside millisecond ms) e in
+    (inside-holds mjd day (h .0), inside-holds millisecond ms (h .1))
 
-pub asked-in : (a b r : Bool) (day ms : ℤ) → (a && (b && (r && (dayOk day && msOk ms)))) ≡ true → InDay day × InMs ms
+pub asked-in : (a b r : Bool) (day ms : ℤ) → (a && (b && (r && (inside mjd day && inside millisecond ms)))) ≡ true → Holds mjd day × Holds millisecond ms
 asked-in true true true day ms e = epoch-in day ms e
 asked-in true true false day ms e = no-ft e
 asked-in true false r day ms e = no-ft e

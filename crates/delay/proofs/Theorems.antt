@@ -11,7 +11,7 @@ use Rattle.whole.specs.Whole.{∣_∣}
 use Rattle.whole.specs.declared.Number.{Number}
 use Rattle.earth.specs.declared.time.Epoch.{Epoch}
 use Rattle.earth.specs.Calls.{epochOf}
-use Rattle.earth.specs.Ranges.{InMs, dayOk, msOk}
+use Rattle.fields.specs.Ranges.{inside, Holds, idNumber, mjd, millisecond}
 use Rattle.sections.specs.File.{refusalOf, countOf}
 use Rattle.whole.specs.Each.{allBelow, firstNot}
 use Rattle.whole.proofs.Each.{below-each, below-fails, not-all, first-fails}
@@ -22,8 +22,8 @@ use Rattle.wave.proofs.Sizes.{between-size}
 use Rattle.wave.specs.Delays.{delayBetween}
 use Rattle.wave.proofs.Swapped.{between-neg, between-same}
 use Rattle.delay.specs.declared.EarthAnswer.{EarthAnswer}
-use Rattle.whole.specs.Answers.{answerBy}
-use Rattle.delay.specs.Calls.{lowest, unless, idOk, allThere, delayIn, delayNumber, delayOutcome, samplesOf, allCovered, sampleIn, samplesNumber, samplesRoom}
+use Rattle.whole.specs.Answers.{given, answerBy}
+use Rattle.delay.specs.Calls.{lowest, unless, allThere, delayIn, delayNumber, delayOutcome, samplesOf, allCovered, sampleIn, samplesNumber, samplesRoom}
 use Rattle.delay.specs.Promises.{OrientationPromise, DelayPromise, SamplesPromise}
 use Rattle.delay.specs.Sessions.{hasId, covers, earthIn, sampleEpoch}
 use Rattle.delay.proofs.Accepted.{names-in}
@@ -53,15 +53,15 @@ and-swap false false c = refl
 pub delay-number-swap : (s : List ℕ) (a b r day ms : ℤ) → delayNumber s b a r day ms ≡ delayNumber s a b r day ms
 unfolding delayNumber
 delay-number-swap s a b r day ms =
-    ap (λ (t : Bool). lowest (refusalOf s ∷ unless t 2 ∷ unless (allThere s b a r) 5 ∷ unless (covers s day) 6 ∷ [])) (and-swap (idOk b) (idOk a) (idOk r && (dayOk day && msOk ms)))
-    ∙ ap (λ (t : Bool). lowest (refusalOf s ∷ unless (idOk a && (idOk b && (idOk r && (dayOk day && msOk ms)))) 2 ∷ unless t 5 ∷ unless (covers s day) 6 ∷ [])) (and-swap (hasId s 0 b) (hasId s 0 a) (hasId s 1 r))
+    ap (λ (t : Bool). lowest (refusalOf s ∷ unless t 2 ∷ unless (allThere s b a r) 5 ∷ unless (covers s day) 6 ∷ [])) (and-swap (inside idNumber b) (inside idNumber a) (inside idNumber r && (inside mjd day && inside millisecond ms)))
+    ∙ ap (λ (t : Bool). lowest (refusalOf s ∷ unless (inside idNumber a && (inside idNumber b && (inside idNumber r && (inside mjd day && inside millisecond ms)))) 2 ∷ unless t 5 ∷ unless (covers s day) 6 ∷ [])) (and-swap (hasId s 0 b) (hasId s 0 a) (hasId s 1 r))
 
 pub delay-in-swap : (s : List ℕ) (a b r : ℤ) (e : Epoch) → delayIn s b a r e ≡ negℤ (delayIn s a b r e)
 unfolding delayIn
 delay-in-swap s a b r e = between-neg (stationBy s a) (stationBy s b) (sourceBy s r) (earthIn s e)
 
 answer-swap : (n : ℕ) (v w : ℤ) → w ≡ negℤ v → (answerBy n w .refusal ≡ answerBy n v .refusal) × (answerBy n w .value ≡ negℤ (answerBy n v .value))
-unfolding answerBy
+unfolding given
 answer-swap zero v w e = (refl, e)
 answer-swap (suc n) v w e = rw (eqb·suc-zero n) (refl, refl)
 
@@ -74,7 +74,7 @@ delay-swap s a b r day ms =
 
 -- one station twice gives 0
 answer-zero : (n : ℕ) (v : ℤ) → v ≡ pos 0 → answerBy n v .value ≡ pos 0
-unfolding answerBy
+unfolding given
 answer-zero zero v e = e
 answer-zero (suc n) v e = rw (eqb·suc-zero n) refl
 
@@ -112,25 +112,25 @@ sample-same s p j e =
 -- ---- "No delay is beyond 130,000,000,000 ps."
 
 -- a delay of an accepted file that covers the epoch and has the stations
-pub delay-in-size : (s : List ℕ) (a b r : ℤ) (e : Epoch) → refusalOf s ≡ 0 → allThere s a b r ≡ true → covers s (e .day) ≡ true → InMs (e .ms) → ∣ delayIn s a b r e ∣ ≤ 130000000000
+pub delay-in-size : (s : List ℕ) (a b r : ℤ) (e : Epoch) → refusalOf s ≡ 0 → allThere s a b r ≡ true → covers s (e .day) ≡ true → Holds millisecond (e .ms) → ∣ delayIn s a b r e ∣ ≤ 130000000000
 unfolding delayIn
 delay-in-size s a b r e h t c m =
     let n = names-in s h a b r t in
     between-size (stationBy s a) (stationBy s b) (sourceBy s r) (earthIn s e) (n .0) (n .1) (earth-in-size s e h c m)
 
 -- what it says that a call of `delay` is not refused
-delay-clear : (s : List ℕ) (a b r day ms : ℤ) → delayNumber s a b r day ms ≡ 0 → (refusalOf s ≡ 0) × (allThere s a b r ≡ true) × (covers s day ≡ true) × InMs ms
+delay-clear : (s : List ℕ) (a b r day ms : ℤ) → delayNumber s a b r day ms ≡ 0 → (refusalOf s ≡ 0) × (allThere s a b r ≡ true) × (covers s day ≡ true) × Holds millisecond ms
 unfolding delayNumber
 delay-clear s a b r day ms e =
-    let o = idOk a && (idOk b && (idOk r && (dayOk day && msOk ms))) in
+    let o = inside idNumber a && (inside idNumber b && (inside idNumber r && (inside mjd day && inside millisecond ms))) in
     let f = lower-zero (refusalOf s) (lowest (unless o 2 ∷ unless (allThere s a b r) 5 ∷ unless (covers s day) 6 ∷ [])) e in
     let g = lower-zero (unless o 2) (lowest (unless (allThere s a b r) 5 ∷ unless (covers s day) 6 ∷ [])) (f .1) in
     let k = lower-zero (unless (allThere s a b r) 5) (lowest (unless (covers s day) 6 ∷ [])) (g .1) in
     let l = lower-zero (unless (covers s day) 6) 0 (k .1) in
-    (f .0, unless-zero (allThere s a b r) 4 (k .0), unless-zero (covers s day) 5 (l .0), asked-in (idOk a) (idOk b) (idOk r) day ms (unless-zero o 1 (g .0)) .1)
+    (f .0, unless-zero (allThere s a b r) 4 (k .0), unless-zero (covers s day) 5 (l .0), asked-in (inside idNumber a) (inside idNumber b) (inside idNumber r) day ms (unless-zero o 1 (g .0)) .1)
 
 answer-size : (n : ℕ) (v : ℤ) (k : ℕ) → (n ≡ 0 → ∣ v ∣ ≤ k) → ∣ answerBy n v .value ∣ ≤ k
-unfolding answerBy
+unfolding given
 answer-size zero v k h = h refl
 answer-size (suc n) v k h = rw (eqb·suc-zero n) (omega arith)
 

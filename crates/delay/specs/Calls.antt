@@ -8,9 +8,8 @@ use lib.Dec.{leb, ltb, eqb}
 use Rattle.earth.specs.declared.time.Epoch.{Epoch}
 use Rattle.whole.specs.declared.Number.{Number}
 use Rattle.whole.specs.Answers.{answerBy}
-use Rattle.whole.specs.Ranges.{within}
 use Rattle.whole.specs.Values.{firstValues}
-use Rattle.earth.specs.Ranges.{dayOk, msOk}
+use Rattle.fields.specs.Ranges.{inside, idNumber, mjd, millisecond}
 use Rattle.earth.specs.Calls.{epochOf}
 use Rattle.session.specs.declared.Pass.{Pass}
 use Rattle.whole.specs.Each.{allBelow}
@@ -39,7 +38,7 @@ unless false n = n
 -- ---- orientation(file, day, ms)
 
 unfoldable pub orientationNumber : List ℕ → ℤ → ℤ → ℕ
-orientationNumber s day ms = lowest (refusalOf s ∷ unless (dayOk day && msOk ms) 2 ∷ unless (covers s day) 6 ∷ [])
+orientationNumber s day ms = lowest (refusalOf s ∷ unless (inside mjd day && inside millisecond ms) 2 ∷ unless (covers s day) 6 ∷ [])
 
 abbrev pub earthAnswer : Earth → EarthAnswer
 earthAnswer e = record { refusal = pos 0; x = e .x; y = e .y; «ut1_utc» = e .«ut1_utc»; tick = e .tick }
@@ -54,10 +53,6 @@ orientationOutcome s day ms =
 
 -- ---- delay(file, station1, station2, source, day, ms)
 
--- "ids 1-65,535"
-abbrev pub idOk : ℤ → Bool
-idOk z = within (pos 1) (pos 65535) z
-
 -- the stations and the source of these ids are there
 abbrev pub allThere : List ℕ → ℤ → ℤ → ℤ → Bool
 allThere s a b r = hasId s 0 a && (hasId s 0 b && hasId s 1 r)
@@ -66,7 +61,7 @@ unfoldable pub delayNumber : List ℕ → ℤ → ℤ → ℤ → ℤ → ℤ �
 delayNumber s a b r day ms =
     lowest
     (refusalOf s
-    ∷ unless (idOk a && (idOk b && (idOk r && (dayOk day && msOk ms)))) 2
+    ∷ unless (inside idNumber a && (inside idNumber b && (inside idNumber r && (inside mjd day && inside millisecond ms)))) 2
     ∷ unless (allThere s a b r) 5
     ∷ unless (covers s day) 6
     ∷ [])

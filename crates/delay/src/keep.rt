@@ -13,7 +13,7 @@ ghost use mathlib.Core.Path.{_≡_};
 ghost use mathlib.Core.Bool.{true};
 ghost use Prim.Native.Nat.{_≤_};
 ghost use Rattle.whole.specs.Whole.{∣_∣};
-ghost use Rattle.earth.specs.Ranges.{InMs};
+ghost use Rattle.fields.specs.Ranges.{Holds, millisecond};
 ghost use Rattle.sections.specs.File.{refusalOf};
 ghost use Rattle.wave.specs.Bounds.{InSight};
 ghost use Rattle.delay.specs.Keeping.{TrueKept, daysFrom, delayAt};
@@ -59,7 +59,7 @@ fn days_at(s: &[u8], kept: Days, day: i64) -> Days
 // The delay along a sight at an epoch that the file covers.
 pub fn sample_at(s: &[u8], kept: Kept, v: Sight, e: Epoch) -> Sampled
     requires { ⌜ (refusalOf (now s) ≡ 0) × TrueKept (now s) kept × InSight v ⌝ }
-    requires { ⌜ (covers (now s) (e .day) ≡ true) × InMs (e .ms) ⌝ }
+    requires { ⌜ (covers (now s) (e .day) ≡ true) × Holds millisecond (e .ms) ⌝ }
     ensures { λ r. ⌜ (r .delay ≡ delayAt (now (s .entry)) v e) × TrueKept (now (s .entry)) (r .kept) ⌝ }
 {
     let days = days_at(s, kept.days, e.day);

@@ -4,25 +4,28 @@ mod pass;
 mod records;
 
 use earth::Epoch;
+use fields::ranges::ID;
+use fields::ranges::MILLISECOND;
+use fields::ranges::MJD;
+use fields::ranges::inside;
 use pass::all_covered;
 use pass::write_samples;
 use records::covers;
 use records::earth_in;
 use records::named_by;
 use sections::refusal::count_of;
-use sections::refusal::number;
 use sections::refusal::refusal_of;
 use session::records::pass_of;
 use wave::delay_between;
 use wave::sight_of;
 use whole::Number;
-use whole::sign::in_range;
+use whole::sign::number;
 ghost use mathlib.Core.Path.{_≡_};
 ghost use mathlib.Core.Bool.{_&&_};
 ghost use Prim.Native.Nat.{_≤_, _<_};
 ghost use Rattle.whole.specs.Answers.{noNumber};
-ghost use Rattle.earth.specs.Ranges.{dayOk, msOk};
-ghost use Rattle.delay.specs.Calls.{lowerOf, unless, idOk, noEarth};
+ghost use Rattle.fields.specs.Ranges.{inside, idNumber, mjd, millisecond};
+ghost use Rattle.delay.specs.Calls.{lowerOf, unless, noEarth};
 ghost use Rattle.delay.specs.Promises.{OrientationPromise, DelayPromise, SamplesPromise};
 
 // As used at an epoch: the pole, UT1-UTC with the tide, and ERA.
@@ -73,15 +76,9 @@ fn no_number(n: usize) -> Number
 }
 
 fn epoch_ok(day: i64, ms: i64) -> bool
-    ensures { λ r. ⌜ r ≡ (dayOk day && msOk ms) ⌝ }
+    ensures { λ r. ⌜ r ≡ (inside mjd day && inside millisecond ms) ⌝ }
 {
-    in_range(day, 41317, 69806) && in_range(ms, 0, 86399999)
-}
-
-fn id_ok(id: i64) -> bool
-    ensures { λ r. ⌜ r ≡ idOk id ⌝ }
-{
-    in_range(id, 1, 65535)
+    inside(MJD, day) && inside(MILLISECOND, ms)
 }
 
 // The pole, UT1-UTC with the tide, and ERA, as used at an epoch.
@@ -107,9 +104,9 @@ pub fn orientation(file: &[u8], day: i64, ms: i64) -> EarthAnswer
 
 // Whether the three ids and the epoch are in their ranges.
 fn asked_ok(station1: i64, station2: i64, source: i64, day: i64, ms: i64) -> bool
-    ensures { λ r. ⌜ r ≡ (idOk station1 && (idOk station2 && (idOk source && (dayOk day && msOk ms)))) ⌝ }
+    ensures { λ r. ⌜ r ≡ (inside idNumber station1 && (inside idNumber station2 && (inside idNumber source && (inside mjd day && inside millisecond ms)))) ⌝ }
 {
-    id_ok(station1) && (id_ok(station2) && (id_ok(source) && epoch_ok(day, ms)))
+    inside(ID, station1) && (inside(ID, station2) && (inside(ID, source) && epoch_ok(day, ms)))
 }
 
 // The delay in picoseconds, at an epoch, of the stations and the source that the ids name.

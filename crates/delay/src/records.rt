@@ -15,7 +15,7 @@ ghost use mathlib.Core.Bool.{true, _&&_};
 ghost use Prim.Native.Nat.{_≤_};
 ghost use lib.IntN.{pos};
 ghost use Rattle.whole.specs.Whole.{∣_∣};
-ghost use Rattle.earth.specs.Ranges.{InMs};
+ghost use Rattle.fields.specs.Ranges.{Holds, millisecond};
 ghost use Rattle.sections.specs.File.{refusalOf, eqZ};
 ghost use Rattle.wave.specs.Bounds.{InEarth};
 ghost use Rattle.delay.specs.Keeping.{daysFrom, namedBy};
@@ -89,7 +89,7 @@ pub fn covers(s: &[u8], day: i64) -> bool
 
 // The earth at an epoch that the file covers.
 pub fn earth_in(s: &[u8], e: Epoch) -> Earth
-    requires { ⌜ (refusalOf (now s) ≡ 0) × (covers (now s) (e .day) ≡ true) × InMs (e .ms) ⌝ }
+    requires { ⌜ (refusalOf (now s) ≡ 0) × (covers (now s) (e .day) ≡ true) × Holds millisecond (e .ms) ⌝ }
     ensures { λ r. ⌜ (r ≡ earthIn (now (s .entry)) e) × InEarth r ⌝ }
 {
     let d = days_from(s, e.day);

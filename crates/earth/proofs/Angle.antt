@@ -8,7 +8,8 @@ use Rattle.whole.specs.Whole.{posPart, negPart, ∣_∣, floorZ, modZ}
 use Rattle.whole.proofs.Quote.{E, ⟨_⟩, #, _⊕_, _⊝_, _⊗_, ⊖, ev, by≡, of≡, bal}
 use Rattle.whole.proofs.Rounding.{floor-mod, mod-below}
 use Rattle.whole.specs.Ranges.{In}
-use Rattle.earth.specs.Ranges.{InF}
+use Rattle.fields.specs.Ranges.{Holds}
+use Rattle.earth.specs.Ranges.{microsecond}
 use Rattle.earth.specs.Angle.{fmOf, sumOf, eOf, eraOf, turn, exactOf, Near}
 use Rattle.whole.proofs.Linear.{size-to}
 use Rattle.earth.proofs.Floors.{floor-more, mod-more}
@@ -41,7 +42,7 @@ off d f F m G q a b c e h1 h2 h3 h4 =
     ))
 
 -- and that is little
-small : (f : ℤ) (a b c : ℕ) → InF f → a < 27 → b < 1000 → c < 432
+small : (f : ℤ) (a b c : ℕ) → Holds microsecond f → a < 27 → b < 1000 → c < 432
     → ∣ negℤ (pos 135448 *ℤ f +ℤ pos (32000000000 * a + 273781191000000 * b + 200000000 * c)) ∣ ≤ 345600000000000000
 small f a b c i ha hb hc =
     size-to (negℤ (pos 135448 *ℤ f +ℤ pos (32000000000 * a + 273781191000000 * b + 200000000 * c)))
@@ -53,7 +54,7 @@ small f a b c i ha hb hc =
     (omega (arith, i .p-hi))
 
 -- "E/10^17 lies within 4/10^11 turn of the exact fraction at f, counted round the circle", for every day and every f of its range
-pub e-near : (d f : ℤ) → InF f → Near d f (eOf d f)
+pub e-near : (d f : ℤ) → Holds microsecond f → Near d f (eOf d f)
 unfolding eOf sumOf
 e-near d f i =
     let F = floorZ (pos 3125000 *ℤ f) 27 in
@@ -106,6 +107,6 @@ sum-is d f at turns us ms ed ef em =
     sym (ap (λ (z : ℤ). modZ z (10 ^ 17)) e ∙ mod-more (pos t) (negℤ (pos turns)) (10 ^ 17) (omega arith))
 
 -- fm from -100,000 to 86,500,000
-pub fm-in : (f : ℤ) → InF f → In (negℤ (pos 100000)) (pos 86500000) (fmOf f)
+pub fm-in : (f : ℤ) → Holds microsecond f → In (negℤ (pos 100000)) (pos 86500000) (fmOf f)
 fm-in (pos n) i = record { n-lo = omega arith; p-lo = omega arith; p-hi = omega (arith, i .p-hi); n-hi = omega arith }
 fm-in (negsuc n) i = record { n-lo = omega (arith, i .n-lo); p-lo = omega arith; p-hi = omega arith; n-hi = omega arith }

@@ -7,10 +7,10 @@ use Rattle.whole.proofs.Linear.{size-to}
 use Rattle.whole.proofs.Quote.{E, ⟨_⟩, #, _⊕_, _⊝_, _⊗_, ev, up, dn, bal}
 use Rattle.whole.proofs.Rounding.{floor-abs}
 use Rattle.earth.specs.declared.time.Epoch.{Epoch}
-use Rattle.earth.specs.Ranges.{InDay, InMs, InTai}
+use Rattle.fields.specs.Ranges.{Holds, mjd, millisecond, taiutc}
 use Rattle.earth.specs.Minutes.{minutesOf}
 
-pub minutes-most : (e : Epoch) (L : ℤ) → InDay (e .day) → InMs (e .ms) → InTai L → ∣ minutesOf e L ∣ ≤ 27000000
+pub minutes-most : (e : Epoch) (L : ℤ) → Holds mjd (e .day) → Holds millisecond (e .ms) → Holds taiutc L → ∣ minutesOf e L ∣ ≤ 27000000
 unfolding minutesOf
 minutes-most e L d u l =
     let z : E = (⟨ e .day ⟩ ⊝ # 51544) ⊗ # 86400000 ⊝ # 43200000 ⊕ ⟨ e .ms ⟩ ⊕ # 32184 ⊕ # 1000 ⊗ ⟨ L ⟩ in

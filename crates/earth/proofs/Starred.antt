@@ -6,6 +6,7 @@ use native.Mathlib.Omega.{arith}
 use borrow.Author.Tests.{le-leb}
 use lib.IntN.{ℤ, pos, negsuc, negℤ, _-ℤ_}
 use Rattle.whole.specs.Whole.{floorZ}
+use Rattle.whole.specs.Answers.{given}
 use Rattle.whole.specs.Cases.{Hold}
 use Rattle.whole.proofs.Quote.{#, _⊕_, _⊝_, _⊗_, by≡, by≤, by<, of≤, of<}
 use Rattle.whole.proofs.Rounding.{floor-unique, floor-lo, floor-hi}
@@ -56,16 +57,16 @@ n-first-day = refl
 
 -- ---- the cases
 pub arguments-at-0 : (u : ℕ) → firstAt0 ≤ u → u ≤ lastAt0 → argumentsAnswer (onDay0 u) ≡ argumentsAt0
-unfolding argumentsOutcome n-at argumentsOf argumentOf
+unfolding given argumentsOutcome n-at argumentsOf argumentOf
 arguments-at-0 u l h =
     let lo = le-leb 0 u (omega arith) in
     let hi = le-leb u 86399999 (omega arith) in
     simp (n-zero u l h, lo, hi)
 
 pub arguments-hold : Hold argumentsAnswer argumentsCases
-unfolding argumentsCases minutesOf argumentsOutcome argumentsOf argumentOf
+unfolding given argumentsCases minutesOf argumentsOutcome argumentsOf argumentOf
 arguments-hold = refl
 
 pub angles-hold : Hold angleAnswer angleCases
-unfolding angleCases angleOutcome eraOf eOf sumOf
+unfolding given angleCases angleOutcome eraOf eOf sumOf
 angles-hold = refl

@@ -4,21 +4,22 @@ pub mod ticks;
 pub mod time;
 pub mod turn;
 
+use fields::ranges::MILLISECOND;
+use fields::ranges::MJD;
+use fields::ranges::Range;
+use fields::ranges::TAI_UTC;
+use fields::ranges::inside;
 use rows::tide_at_minute;
 pub use ticks::Delaunay;
 use ticks::arguments_at;
+use time::ADDED;
 pub use time::Epoch;
-use time::FIRST_DAY;
-use time::LAST_DAY;
+use turn::MICROSECOND;
 use turn::turn_of;
 use whole::Number;
 use whole::long::rotation_ticks;
-use whole::sign::in_range;
 ghost use mathlib.Core.Path.{_≡_};
-ghost use mathlib.Core.Bool.{_&&_};
-ghost use lib.IntN.{pos};
-ghost use Rattle.whole.specs.Ranges.{within};
-ghost use Rattle.earth.specs.Ranges.{dayOk, msOk, fOk};
+ghost use Rattle.earth.specs.Calls.{epochInside, angleInside};
 ghost use Rattle.earth.specs.Promises.{LaterPromise, ArgumentsPromise, TidePromise, AnglePromise, RotatePromise};
 
 #[repr(C)]
@@ -48,18 +49,18 @@ pub struct AngleAnswer {
     pub tick: u32,
 }
 
-// Whether the day and the millisecond are in the ranges of their file fields, and `more` is from 0 to `most`.
-fn epoch_ok(day: i64, ms: i64, more: i64, most: i64) -> bool
-    ensures { λ r. ⌜ r ≡ (dayOk day && (msOk ms && within (pos 0) most more)) ⌝ }
+// Whether the day and the millisecond are in the ranges of their file fields, and `more` in its own.
+fn epoch_ok(day: i64, ms: i64, more: i64, range: Range) -> bool
+    ensures { λ r. ⌜ r ≡ epochInside range day ms more ⌝ }
 {
-    in_range(day, FIRST_DAY, LAST_DAY) && (in_range(ms, 0, 86_399_999) && in_range(more, 0, most))
+    inside(MJD, day) && (inside(MILLISECOND, ms) && inside(range, more))
 }
 
 // The epoch that is `add` milliseconds later.
 pub fn later(day: i64, ms: i64, add: i64) -> EpochAnswer
     ensures { λ r. ⌜ LaterPromise day ms add r ⌝ }
 {
-    if epoch_ok(day, ms, add, 14_742_000_000) {
+    if epoch_ok(day, ms, add, ADDED) {
         let e = Epoch { day: day, ms: ms }.later(add);
         return EpochAnswer {
             refusal: 0,
@@ -78,7 +79,7 @@ pub fn later(day: i64, ms: i64, add: i64) -> EpochAnswer
 pub fn arguments(day: i64, ms: i64, tai: i64) -> TicksAnswer
     ensures { λ r. ⌜ ArgumentsPromise day ms tai r ⌝ }
 {
-    if epoch_ok(day, ms, tai, 99) {
+    if epoch_ok(day, ms, tai, TAI_UTC) {
         let n = Epoch { day: day, ms: ms }.minutes(tai);
         let a = arguments_at(n);
         return TicksAnswer {
@@ -106,7 +107,7 @@ pub fn arguments(day: i64, ms: i64, tai: i64) -> TicksAnswer
 pub fn tide(day: i64, ms: i64, tai: i64) -> Number
     ensures { λ r. ⌜ TidePromise day ms tai r ⌝ }
 {
-    if epoch_ok(day, ms, tai, 99) {
+    if epoch_ok(day, ms, tai, TAI_UTC) {
         let n = Epoch { day: day, ms: ms }.minutes(tai);
         return Number {
             refusal: 0,
@@ -121,9 +122,9 @@ pub fn tide(day: i64, ms: i64, tai: i64) -> Number
 
 // Whether the day and f are in their ranges.
 fn angle_ok(day: i64, f: i64) -> bool
-    ensures { λ r. ⌜ r ≡ (dayOk day && fOk f) ⌝ }
+    ensures { λ r. ⌜ r ≡ angleInside day f ⌝ }
 {
-    in_range(day, FIRST_DAY, LAST_DAY) && in_range(f, -100_000_000, 86_500_000_000)
+    inside(MJD, day) && inside(MICROSECOND, f)
 }
 
 // E and ERA of a day and of f microseconds of it.

@@ -2,7 +2,6 @@
 ghost use mathlib.Core.Path.{_≡_};
 ghost use Prim.Native.Nat.{_+_, _*_, _<_, _≤_};
 ghost use lib.ListN.{length};
-ghost use lib.IntN.{pos};
 ghost use Rattle.text.specs.Words.{numberAt};
 ghost use Rattle.sections.specs.File.{refusalOf, countOf, sizeOf, recordByte};
 ghost use Rattle.sections.specs.Layouts.{places};
@@ -30,14 +29,6 @@ pub fn refusal_of(s: &[u8]) -> usize
         return 4;
     }
     0
-}
-
-// A number of the code, as an answer holds it.
-pub fn number(n: usize) -> i64
-    requires { ⌜ n < 9223372036854775808 ⌝ }
-    ensures { λ r. ⌜ r ≡ pos n ⌝ }
-{
-    n as i64
 }
 
 // How many records stand in place p.

@@ -11,8 +11,8 @@ use sections::contents::layout_of;
 use sections::order::wrong_step;
 use sections::ranges::first_outside;
 use sections::ranges::wrong_record;
-use sections::refusal::number;
 use text::words::word_at;
+use whole::sign::number;
 
 // The first field of record i of place p that is out of its range, or the number of fields.
 fn wrong_field(s: &[u8], p: usize, i: usize) -> usize

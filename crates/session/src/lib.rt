@@ -19,8 +19,8 @@ use sections::contents::wrong_word;
 use sections::order::wrong_order;
 use sections::ranges::wrong_section;
 use sections::refusal::count_of;
-use sections::refusal::number;
 use sections::refusal::refusal_of;
+use whole::sign::number;
 
 #[repr(C)]
 pub struct Counts {

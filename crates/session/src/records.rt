@@ -14,11 +14,11 @@ use crate::Station;
 use sections::contents::layout_of;
 use sections::refusal::count_of;
 use sections::refusal::field_at;
-use sections::refusal::number;
 use sections::refusal::record_byte;
 use sections::refusal::refusal_of;
 use text::words::number_at;
 use text::words::word_at;
+use whole::sign::number;
 
 pub fn station_of(s: &[u8], i: usize) -> Station
     requires { ⌜ (refusalOf (now s) ≡ 0) × (i < countOf (now s) 0) ⌝ }

@@ -10,7 +10,8 @@ use Rattle.whole.specs.Whole.{posPart, negPart, ∣_∣, line, floorZ}
 use Rattle.whole.proofs.Linear.{zarith, sub-lawℤ, parts-le, abs-add, abs-sub, abs-mul≤, size-to, in-le}
 use Rattle.whole.proofs.Quote.{⟨_⟩, #, _⊕_, _⊝_, _⊗_, ⊖, by≡, by≤, of≤, of<}
 use Rattle.whole.proofs.Rounding.{R-mul, line-size, floor-lo, floor-hi}
-use Rattle.earth.specs.Ranges.{InMs, InF}
+use Rattle.fields.specs.Ranges.{Holds, millisecond}
+use Rattle.earth.specs.Ranges.{microsecond}
 use Rattle.earth.specs.declared.time.Epoch.{Epoch}
 use Rattle.earth.specs.TideInUT1.{tideOf}
 use Rattle.earth.proofs.TideInUT1.{tide-most}
@@ -18,17 +19,17 @@ use Rattle.session.specs.declared.Day.{Day}
 use Rattle.wave.specs.Bounds.{InRecord, InEarth}
 use Rattle.wave.specs.DayValues.{ut1rOf, leapOf, ut1Line, ut1Used, fOf, earthOf}
 
-pub ms-lo : {u : ℤ} → InMs u → pos 0 ≤ℤ u
+pub ms-lo : {u : ℤ} → Holds millisecond u → pos 0 ≤ℤ u
 ms-lo {u} h = parts-le (pos 0) u (h .p-lo) (h .n-lo)
 
-pub ms-hi : {u : ℤ} → InMs u → u ≤ℤ pos 86399999
+pub ms-hi : {u : ℤ} → Holds millisecond u → u ≤ℤ pos 86399999
 ms-hi {u} h = parts-le u (pos 86399999) (h .p-hi) (h .n-hi)
 
-ms-day : {u : ℤ} → InMs u → u ≤ℤ pos 86400000
+ms-day : {u : ℤ} → Holds millisecond u → u ≤ℤ pos 86400000
 ms-day {u} h = omega (zarith, ms-hi h)
 
 -- a field of two records, between them
-pub between-size : (v0 v1 u : ℤ) (k : ℕ) → InMs u → ∣ v0 ∣ ≤ k → ∣ v1 ∣ ≤ k → ∣ line v0 v1 u ∣ ≤ k
+pub between-size : (v0 v1 u : ℤ) (k : ℕ) → Holds millisecond u → ∣ v0 ∣ ≤ k → ∣ v1 ∣ ≤ k → ∣ line v0 v1 u ∣ ≤ k
 between-size v0 v1 u k h a b = line-size v0 v1 u k (ms-lo h) (ms-day h) a b
 
 -- the UT1R that a record gives, by the range of its field
@@ -71,7 +72,7 @@ ut1-goes-on r0 r1 =
     (omega arith)
 
 -- the line's size: UT1R and the leap
-pub ut1-line-size : (r0 r1 : Day) (u : ℤ) → InRecord r0 → InRecord r1 → InMs u → ∣ ut1Line r0 r1 u ∣ ≤ 99902723000
+pub ut1-line-size : (r0 r1 : Day) (u : ℤ) → InRecord r0 → InRecord r1 → Holds millisecond u → ∣ ut1Line r0 r1 u ∣ ≤ 99902723000
 unfolding ut1Line
 ut1-line-size r0 r1 u a b h =
     let h0 = a .ut1-size in
@@ -82,13 +83,13 @@ pub tide-size : (e : Epoch) (L : ℤ) → ∣ tideOf e L ∣ ≤ 2723000
 unfolding tideOf
 tide-size e L = tide-most _
 
-pub ut1-used-size : (r0 r1 : Day) (e : Epoch) → InRecord r0 → InRecord r1 → InMs (e .ms) → ∣ ut1Used r0 r1 e ∣ ≤ 99905446000
+pub ut1-used-size : (r0 r1 : Day) (e : Epoch) → InRecord r0 → InRecord r1 → Holds millisecond (e .ms) → ∣ ut1Used r0 r1 e ∣ ≤ 99905446000
 unfolding ut1Used
 ut1-used-size r0 r1 e a b h =
     omega (arith, abs-add (ut1Line r0 r1 (e .ms)) (tideOf e (r0 .«tai_utc»)), ut1-line-size r0 r1 (e .ms) a b h, tide-size e (r0 .«tai_utc»))
 
 -- f lies in the rotation angle's range
-pub f-in : (u ut1 : ℤ) → InMs u → ∣ ut1 ∣ ≤ 99905446000 → InF (fOf u ut1)
+pub f-in : (u ut1 : ℤ) → Holds millisecond u → ∣ ut1 ∣ ≤ 99905446000 → Holds microsecond (fOf u ut1)
 f-in u ut1 h k =
     let q = floorZ ut1 1000 in
     let l = of≤ (⟨ q ⟩ ⊗ # 1000) ⟨ ut1 ⟩ (floor-lo ut1 1000 (omega arith)) in
@@ -98,7 +99,7 @@ f-in u ut1 h k =
     (by≤ (# 1000 ⊗ ⟨ u ⟩ ⊕ ⟨ q ⟩) (# 86500000000) (omega arith))
 
 -- the pole at an epoch
-pub earth-size : (r0 r1 : Day) (e : Epoch) → InRecord r0 → InRecord r1 → InMs (e .ms) → InEarth (earthOf r0 r1 e)
+pub earth-size : (r0 r1 : Day) (e : Epoch) → InRecord r0 → InRecord r1 → Holds millisecond (e .ms) → InEarth (earthOf r0 r1 e)
 unfolding earthOf
 earth-size r0 r1 e a b h =
     record {

@@ -3,7 +3,7 @@ use Prim.Native.Nat.{_^_, _≤_}
 use lib.IntN.{ℤ, pos, negℤ}
 use Rattle.whole.specs.Ranges.{In}
 use Rattle.whole.specs.Whole.{∣_∣}
-use Rattle.earth.specs.Ranges.{InTai}
+use Rattle.fields.specs.Ranges.{Holds, taiutc}
 use Rattle.session.specs.declared.Station.{Station}
 use Rattle.session.specs.declared.Source.{Source}
 use Rattle.session.specs.declared.Day.{Day}
@@ -39,7 +39,7 @@ pub record InRecord (r : Day) : Type 0 where
   pub x-size : ∣ r .x ∣ ≤ 1000000
   pub y-size : ∣ r .y ∣ ≤ 1000000
   pub ut1-size : ∣ ut1rOf r ∣ ≤ 902723000
-  pub tai : InTai (r .«tai_utc»)
+  pub tai : Holds taiutc (r .«tai_utc»)
 
 -- the earth at an epoch: its pole
 pub record InEarth (e : Earth) : Type 0 where

@@ -9,7 +9,7 @@ ghost use mathlib.Core.Path.{_≡_};
 ghost use Prim.Native.Nat.{_^_, _<_, _≤_};
 ghost use lib.IntN.{_+ℤ_};
 ghost use Rattle.whole.specs.Whole.{∣_∣};
-ghost use Rattle.earth.specs.Ranges.{InDay, InMs};
+ghost use Rattle.fields.specs.Ranges.{Holds, mjd, millisecond};
 ghost use Rattle.earth.specs.Angle.{eraOf};
 ghost use Rattle.earth.specs.Minutes.{minutesOf};
 ghost use Rattle.earth.specs.TideInUT1.{tideOf};
@@ -47,7 +47,7 @@ pub fn minute_at(kept: Minute, n: i64) -> Minute
 
 // The minute of TT of an epoch, by the TAI-UTC of its day's record.
 pub fn minutes_by(r0: Day, e: Epoch) -> i64
-    requires { ⌜ InRecord r0 × InDay (e .day) × InMs (e .ms) ⌝ }
+    requires { ⌜ InRecord r0 × Holds mjd (e .day) × Holds millisecond (e .ms) ⌝ }
     ensures { λ n. ⌜ (n ≡ minutesOf e (r0 .«tai_utc»)) × (∣ n ∣ < 2 ^ 26) ⌝ }
 {
     e.minutes(r0.tai_utc)
@@ -70,7 +70,7 @@ fn leap(r0: Day, r1: Day) -> i64
 
 // UT1-UTC used: the line from one day's record to the next, without the leap between them, and the tide.
 fn ut1_used(r0: Day, r1: Day, ms: i64, tide: i64) -> i64
-    requires { ⌜ InRecord r0 × InRecord r1 × InMs ms × (∣ tide ∣ ≤ 2723000) ⌝ }
+    requires { ⌜ InRecord r0 × InRecord r1 × Holds millisecond ms × (∣ tide ∣ ≤ 2723000) ⌝ }
     ensures { λ r. ⌜ r ≡ ut1Line r0 r1 ms +ℤ tide ⌝ }
 {
     let v0 = ut1r(r0);
@@ -80,7 +80,7 @@ fn ut1_used(r0: Day, r1: Day, ms: i64, tide: i64) -> i64
 
 // ERA, where this UT1-UTC is used. The bias in f keeps the dividend from going below 0, where a quotient is no floor.
 fn era_at(day: i64, ms: i64, ut1: i64) -> u32
-    requires { ⌜ InDay day × InMs ms × (∣ ut1 ∣ ≤ 99905446000) ⌝ }
+    requires { ⌜ Holds mjd day × Holds millisecond ms × (∣ ut1 ∣ ≤ 99905446000) ⌝ }
     ensures { λ r. ⌜ r ≡ eraOf day (fOf ms ut1) ⌝ }
 {
     let f = 1000 * ms + (ut1 + 100000000000) / 1000 - 100000000;
@@ -90,7 +90,7 @@ fn era_at(day: i64, ms: i64, ut1: i64) -> u32
 
 // The earth at an epoch, from the records of its day and of the next, and from the tide of its minute.
 pub fn earth_at(r0: Day, r1: Day, e: Epoch, tide: i64) -> Earth
-    requires { ⌜ InRecord r0 × InRecord r1 × InDay (e .day) × InMs (e .ms) ⌝ }
+    requires { ⌜ InRecord r0 × InRecord r1 × Holds mjd (e .day) × Holds millisecond (e .ms) ⌝ }
     requires { ⌜ tide ≡ tideOf e (r0 .«tai_utc») ⌝ }
     ensures { λ r. ⌜ (r ≡ earthOf r0 r1 e) × InEarth r ⌝ }
 {

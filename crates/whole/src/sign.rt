@@ -1,6 +1,7 @@
-// A signed number's size, its sign, and its place in a range.
+// A signed number's size, its sign, its place in a range, and a number of the code as one.
 ghost use mathlib.Core.Path.{_≡_};
 ghost use Prim.Native.Nat.{_^_, _<_};
+ghost use lib.IntN.{pos};
 ghost use Rattle.whole.specs.Ranges.{within};
 ghost use Rattle.whole.specs.Whole.{∣_∣, signOf};
 
@@ -28,4 +29,12 @@ pub fn with_sign(negative: bool, n: u64) -> i64
     ensures { λ r. ⌜ r ≡ signOf negative n ⌝ }
 {
     if negative { -(n as i64) } else { n as i64 }
+}
+
+// A number of the code, as an answer holds it.
+pub fn number(n: usize) -> i64
+    requires { ⌜ n < 2 ^ 63 ⌝ }
+    ensures { λ r. ⌜ r ≡ pos n ⌝ }
+{
+    n as i64
 }

@@ -15,9 +15,9 @@ use text::bytes::put_numbers;
 use text::bytes::put_words;
 use lists::contents_for;
 use lists::lists_right;
-use sections::refusal::number;
 use sections::refusal::refusal_of;
 use whole::Number;
+use whole::sign::number;
 
 // The kinds that the four places are to have.
 pub struct Kinds {

@@ -14,7 +14,7 @@ use Rattle.whole.proofs.Linear.{back, ret}
 use Rattle.whole.proofs.Tests.{passed, failed}
 use Rattle.earth.specs.declared.time.Epoch.{Epoch}
 use Rattle.earth.specs.Calls.{epochOf}
-use Rattle.earth.specs.Ranges.{InDay, InMs, dayOk, msOk}
+use Rattle.fields.specs.Ranges.{inside, Holds, idNumber, mjd, millisecond}
 use Rattle.earth.proofs.Floors.{in-abs}
 use Rattle.sections.specs.File.{refusalOf}
 use Rattle.session.specs.Records.{stationBy, sourceBy}
@@ -23,7 +23,7 @@ use Rattle.wave.specs.Delays.{delayBetween}
 use Rattle.delay.specs.declared.records.Named.{Named}
 use Rattle.whole.specs.Answers.{number, noNumber}
 use Rattle.whole.proofs.Answers.{answer-yes, answer-no}
-use Rattle.delay.specs.Calls.{lowerOf, lowest, unless, idOk, allThere, delayIn, delayNumber, delayOutcome}
+use Rattle.delay.specs.Calls.{lowerOf, lowest, unless, allThere, delayIn, delayNumber, delayOutcome}
 use Rattle.delay.specs.Keeping.{namedBy}
 use Rattle.delay.specs.Sessions.{covers, earthIn}
 use Rattle.delay.proofs.Accepted.{names-in}
@@ -64,7 +64,7 @@ module _ (c : tie.After-judged) where
   ms = start .args .ms
 
   abbrev ok : Bool
-  ok = idOk a && (idOk b && (idOk r && (dayOk day && msOk ms)))
+  ok = inside idNumber a && (inside idNumber b && (inside idNumber r && (inside mjd day && inside millisecond ms)))
 
   ok-is : c .before .asked-ok .result ≡ ok
   ok-is =
@@ -106,8 +106,8 @@ module _ (c : tie.Else1) where
   clear : (refusalOf (file (c .before)) ≡ 0) × (ok (c .before) ≡ true)
   clear = judged-none (refusalOf (file (c .before))) (ok (c .before)) (sym (number-is (c .before)) ∙ c .if1 .left)
 
-  in-range : InDay (day (c .before)) × InMs (ms (c .before))
-  in-range = asked-in (idOk (a (c .before))) (idOk (b (c .before))) (idOk (r (c .before))) (day (c .before)) (ms (c .before)) (clear .1)
+  in-range : Holds mjd (day (c .before)) × Holds millisecond (ms (c .before))
+  in-range = asked-in (inside idNumber (a (c .before))) (inside idNumber (b (c .before))) (inside idNumber (r (c .before))) (day (c .before)) (ms (c .before)) (clear .1)
 
 named-by-requires : tie.Need-named-by-requires
 named-by-requires c κs = clear c .0

@@ -15,7 +15,7 @@ use Rattle.whole.proofs.Linear.{back, ret}
 use Rattle.whole.proofs.Tests.{passed, failed}
 use Rattle.earth.specs.declared.time.Epoch.{Epoch}
 use Rattle.earth.specs.Calls.{epochOf}
-use Rattle.earth.specs.Ranges.{InDay, InMs, dayOk, msOk}
+use Rattle.fields.specs.Ranges.{inside, Holds, mjd, millisecond}
 use Rattle.earth.proofs.Floors.{in-abs}
 use Rattle.sections.specs.File.{refusalOf}
 use Rattle.delay.specs.declared.EarthAnswer.{EarthAnswer}
@@ -44,7 +44,7 @@ module _ (c : tie.After-judged) where
   file = start .args .file .now
 
   abbrev ok : Bool
-  ok = dayOk (start .args .day) && msOk (start .args .ms)
+  ok = inside mjd (start .args .day) && inside millisecond (start .args .ms)
 
   ok-is : c .before .epoch-ok .result ≡ ok
   ok-is = simp (back (start .fits .day), back (start .fits .ms)) at (c .before .epoch-ok .ensures)
@@ -82,7 +82,7 @@ module _ (c : tie.Else1) where
   clear : (refusalOf (file (c .before)) ≡ 0) × (ok (c .before) ≡ true)
   clear = judged-none (refusalOf (file (c .before))) (ok (c .before)) (sym (number-is (c .before)) ∙ c .if1 .left)
 
-  in-range : InDay (start (c .before) .args .day) × InMs (start (c .before) .args .ms)
+  in-range : Holds mjd (start (c .before) .args .day) × Holds millisecond (start (c .before) .args .ms)
   in-range = epoch-in (start (c .before) .args .day) (start (c .before) .args .ms) (clear .1)
 
 covers-requires : tie.Need-covers-requires

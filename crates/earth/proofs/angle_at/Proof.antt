@@ -1,25 +1,25 @@
 -- `earth::angle_at` meets its contract.
 use borrow.Author.Needs.{needs}
 use mathlib.Core.Path.{_≡_, sym, ap, _∙_}
-use mathlib.Core.Bool.{Bool, true, _&&_}
+use mathlib.Core.Bool.{Bool, true}
 use Prim.Native.Nat.{ℕ, _*_, _/_, _^_, _<_}
 use native.Mathlib.Omega.{arith}
 use lib.IntN.{pos}
 use mir.Syntax.{w64}
 use mir.Facts.{toZ-pos}
 use Rattle.whole.proofs.Linear.{back}
-use Rattle.earth.specs.Ranges.{dayOk, fOk}
+use Rattle.whole.specs.Answers.{given}
 use Rattle.earth.specs.Angle.{eOf, eraOf}
-use Rattle.earth.specs.Calls.{angleOr2, angleOutcome}
+use Rattle.earth.specs.Calls.{angleInside, onlyTwo, turnAnswer, noTurn, angleOutcome}
 use Rattle.earth.proofs.Angle.{e-below}
 use Rattle.earth.proofs.Ranges.{angle-yes}
 use Rattle.earth.proofs.angle_at.Statement.{statement}
 use Rattle.earth.proofs.angle_at.Tie as tie
 
-ok-is : (c : tie.After-angle-ok) → let a = c .before .args in c .angle-ok .result ≡ (dayOk (a .day) && fOk (a .f))
+ok-is : (c : tie.After-angle-ok) → let a = c .before .args in c .angle-ok .result ≡ angleInside (a .day) (a .f)
 ok-is c = simp (back, c .before .fits .day, c .before .fits .f) at (c .angle-ok .ensures)
 
-accepted : (c : tie.Then1) → let a = c .before .before .args in (dayOk (a .day) && fOk (a .f)) ≡ true
+accepted : (c : tie.Then1) → let a = c .before .before .args in angleInside (a .day) (a .f) ≡ true
 accepted c = sym (ok-is (c .before)) ∙ c .if1 .taken
 
 e-is : (c : tie.After-turn-of) → let a = c .before .before .before .args in c .turn-of .result ≡ eOf (a .day) (a .f)
@@ -42,7 +42,7 @@ rotation-ticks-requires : tie.Need-rotation-ticks-requires
 rotation-ticks-requires c κs = below c
 
 returns : tie.Need-returns
-unfolding angleOutcome eraOf
+unfolding given angleOutcome eraOf
 returns c =
     let d = c .before in
     let e = e-is d in
@@ -51,10 +51,10 @@ returns c =
     let v = toZ-pos w64 h ∙ ap pos e in
     let a = d .before .before .before .args in
     (λ i. record { refusal = pos 0; e = v i; tick = t i })
-    ∙ ap (λ (b : Bool). angleOr2 b (eOf (a .day) (a .f)) (eraOf (a .day) (a .f))) (sym (accepted (d .before)))
+    ∙ ap (λ (b : Bool). given (onlyTwo b) (turnAnswer (eOf (a .day) (a .f)) (eraOf (a .day) (a .f))) noTurn) (sym (accepted (d .before)))
 
 returns-2 : tie.Need-returns-2
-unfolding angleOutcome
+unfolding given angleOutcome
 returns-2 c = simp (sym (ok-is (c .before)) ∙ c .if1 .left)
 
 pub angle-at-spec : {M : Type 1} → statement M

@@ -1,9 +1,10 @@
+-- `whole::sign::number` meets its contract.
 use native.Mathlib.Omega.{arith}
 use mir.Facts.{toZ-pos}
 use mir.Syntax.{w64}
 use borrow.Author.Needs.{needs}
-use Rattle.sections.proofs.refusal.number.Statement.{statement}
-use Rattle.sections.proofs.refusal.number.Tie as tie
+use Rattle.whole.proofs.sign.number.Statement.{statement}
+use Rattle.whole.proofs.sign.number.Tie as tie
 
 cast-result : tie.Need-cast-result
 cast-result c = search needs
