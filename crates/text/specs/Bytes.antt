@@ -1,4 +1,4 @@
--- Document 01, 'Session file': "Every number is 8 bytes, little-endian two's complement", written.
+-- Numbers of 8 bytes, the lowest first, in two's complement (document 01, 'Session file'), as they are written.
 use Prim.Native.Nat.{ℕ, _+_, _/_, _%_}
 use mathlib.Core.List.{List, [], _∷_, _++_, map}
 use lib.ListN.{length, take, drop}

@@ -1,4 +1,4 @@
--- Document 01, 'Session file': "Every number is 8 bytes, little-endian two's complement."
+-- Numbers of 8 bytes, the lowest first, in two's complement (document 01, 'Session file'), as they are read.
 use Prim.Native.Nat.{ℕ, _+_, _*_}
 use mathlib.Core.List.{List}
 use lib.ListN.{getD}

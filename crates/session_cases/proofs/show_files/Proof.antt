@@ -3,10 +3,6 @@ use Prim.Native.Nat.{_≤_, _-_}
 use lib.ListN.{length}
 use Rattle.session_cases.proofs.show_files.Statement.{statement}
 use Rattle.session_cases.proofs.show_files.Tie as tie
-use Rattle.session_cases.proofs.show_files.Reads as reads
-use Rattle.session_cases.proofs.show_files.Lts as lts
-use Rattle.sections.proofs.words.bits_at.Reads as bits-at-reads
-use Rattle.session_cases.proofs.show_file.Reads as show-file-reads
 
 abbrev Inv-loop : tie.InvT-loop
 Inv-loop s at₀ at = at ≤ length s

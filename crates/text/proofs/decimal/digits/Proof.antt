@@ -1,4 +1,4 @@
--- `lines::ascii::digits` meets its contract. Assumes nothing.
+-- `text::decimal::digits` meets its contract. Assumes nothing.
 use borrow.Author.Needs.{needs}
 use mathlib.Core.Path.{_≡_, ap}
 use Prim.Native.Nat.{_+_}

@@ -1,4 +1,4 @@
--- `lines::ascii::put_decimal` meets its contract. Assumes nothing.
+-- `text::decimal::put_decimal` meets its contract. Assumes nothing.
 use mathlib.Core.Path.{_≡_, sym, ap, subst, _∙_}
 use mathlib.Core.List.{List, _∷_}
 use Prim.Native.Nat.{ℕ, _+_, _<_, _≤_}

@@ -1,4 +1,4 @@
--- `lines::ascii::put_natural` meets its contract. Assumes nothing.
+-- `text::decimal::put_natural` meets its contract. Assumes nothing.
 use borrow.Author.Needs.{needs}
 use mathlib.Core.Path.{_≡_, refl, sym, ap, _∙_}
 use mathlib.Core.List.{List}

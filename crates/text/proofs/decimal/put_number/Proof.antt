@@ -1,4 +1,4 @@
--- `lines::ascii::put_number` meets its contract. Assumes nothing.
+-- `text::decimal::put_number` meets its contract. Assumes nothing.
 use mathlib.Core.Path.{_≡_, subst}
 use Prim.Native.Nat.{_≤_}
 use native.Mathlib.Omega.{arith}
