@@ -1,6 +1,6 @@
 -- What refusal 2 leaves: samples and tolerance in their ranges.
 use mathlib.Core.Path.{_≡_, refl, sym, ap, subst, _∙_}
-use mathlib.Core.Bool.{Bool, true, false, not, _&&_}
+use mathlib.Core.Bool.{true, _&&_}
 use mathlib.Core.List.{List}
 use mathlib.Core.Logic.{⊎-elim}
 use Prim.Native.Nat.{ℕ, _≤_}
@@ -9,28 +9,17 @@ use borrow.Author.Tests.{leb-true, le-leb, lt-leb}
 use lib.Dec.{leb}
 use lib.ListN.{length, List·getD-eq-default}
 use lib.IntN.{ℤ, pos, negsuc}
-use lib.Signed.{leZ, ltZ}
+use lib.Signed.{leZ}
 use Rattle.whole.specs.Whole.{posPart, negPart, ∣_∣}
-use Rattle.whole.proofs.Linear.{and-true, leZ-true, leZ-false, ltZ-true, ltZ-false, no-ft}
+use Rattle.whole.proofs.Linear.{and-true}
+use Rattle.fields.specs.Ranges.{inside, samples, tolerance}
+use Rattle.fields.proofs.Inside.{inside-holds}
 use Rattle.fit.specs.Line.{sample, Small}
 use Rattle.whole.proofs.Each.{below-each}
 use Rattle.whole.proofs.Tests.{no-and, and-yes}
 use Rattle.fit.proofs.Tests.{lt-or}
 use Rattle.whole.specs.Each.{allBelow}
 use Rattle.track.specs.Answer.{smallAt, inRange}
-
--- a number is at most another exactly if the other is not below it
-pub not-below : (a b : ℤ) (x : Bool) → ltZ b a ≡ x → leZ a b ≡ not x
-not-below a b true h = go (leZ a b) refl
-  where
-    go : (y : Bool) → y ≡ leZ a b → y ≡ false
-    go true e = absurd (omega (arith, leZ-true a b (sym e), ltZ-true b a h))
-    go false e = refl
-not-below a b false h = go (leZ a b) refl
-  where
-    go : (y : Bool) → y ≡ leZ a b → y ≡ true
-    go true e = refl
-    go false e = absurd (omega (arith, leZ-false a b (sym e), ltZ-false b a h))
 
 -- within ±130,000,000,000, as the code tests it
 pub small-test : (z : ℤ) → (leZ (negsuc 129_999_999_999) z && leZ z (pos 130_000_000_000)) ≡ leb ∣ z ∣ 130_000_000_000
@@ -58,23 +47,9 @@ pub record Ranged (s : List ℤ) (t : ℤ) : Type 0 where
 pub ranged : (s : List ℤ) (t : ℤ) → inRange s t ≡ true → Ranged s t
 unfolding inRange
 ranged s t h =
-    let p = leb 1 (length s) && leb (length s) 4096 in
-    let q = p && leZ (pos 0) t in
-    let a = and-true (q && leZ t (pos 1_000_000)) (allBelow (length s) (smallAt s)) h in
-    let b = and-true q (leZ t (pos 1_000_000)) (a .0) in
-    let d = and-true p (leZ (pos 0) t) (b .0) in
-    let e = and-true (leb 1 (length s)) (leb (length s) 4096) (d .0) in record {
-      some = leb-true 1 (length s) (e .0);
-      few = leb-true (length s) 4096 (e .1);
-      small = small-of s (a .1);
-      from = from t (d .1);
-      tol = tol t (b .1);
-    }
-  where
-    from : (t : ℤ) → leZ (pos 0) t ≡ true → negPart t ≡ 0
-    from (pos n) k = refl
-    from (negsuc n) k = no-ft k
-
-    tol : (t : ℤ) → leZ t (pos 1_000_000) ≡ true → posPart t ≤ 1_000_000
-    tol (pos n) k = leb-true n 1_000_000 k
-    tol (negsuc n) k = omega arith
+    let p = inside samples (pos (length s)) in
+    let a = and-true (p && inside tolerance t) (allBelow (length s) (smallAt s)) h in
+    let b = and-true p (inside tolerance t) (a .0) in
+    let n = inside-holds samples (pos (length s)) (b .0) in
+    let k = inside-holds tolerance t (b .1) in
+    record { some = n .p-lo; few = n .p-hi; small = small-of s (a .1); from = omega (arith, k .n-lo); tol = k .p-hi }

@@ -3,7 +3,15 @@ ghost use mathlib.Core.Path.{_≡_};
 ghost use lib.ListN.{length};
 ghost use Rattle.whole.specs.Each.{allBelow};
 ghost use Rattle.track.specs.Answer.{smallAt, inRange};
+use fields::ranges::SAMPLES;
+use fields::ranges::TOLERANCE;
+use fields::ranges::inside;
 use whole::sign::in_range;
+
+// How many samples a call takes.
+const FEWEST: usize = SAMPLES.low as usize;
+
+const MOST: usize = SAMPLES.high as usize;
 
 // Whether each sample is at most 130_000_000_000 in size.
 fn all_small(samples: &[i64]) -> bool
@@ -24,16 +32,13 @@ fn all_small(samples: &[i64]) -> bool
 pub fn call_in_range(samples: &[i64], tolerance: i64) -> bool
     ensures { λ r. ⌜ r ≡ inRange (now (samples .entry)) tolerance ⌝ }
 {
-    if samples.len() < 1 {
+    if samples.len() < FEWEST {
         return false;
     }
-    if 4096 < samples.len() {
+    if MOST < samples.len() {
         return false;
     }
-    if tolerance < 0 {
-        return false;
-    }
-    if 1_000_000 < tolerance {
+    if !inside(TOLERANCE, tolerance) {
         return false;
     }
     all_small(samples)
