@@ -11,11 +11,14 @@ use lib.Seq.{drop-cons}
 use lib.IntN.{ℤ, pos, negsuc, _+ℤ_, _-ℤ_, _*ℤ_}
 use lib.Signed.{leZ, ltZ}
 use Rattle.whole.specs.Whole.{posPart, negPart, ∣_∣}
+use Rattle.whole.specs.declared.Number.{Number}
+use Rattle.whole.specs.Answers.{given, noNumber, answerBy}
+use Rattle.whole.specs.Refusals.{unless}
 use Rattle.whole.proofs.Linear.{and-true, leZ-true, ⇒eq, ltZ-true, ltZ-false, no-ft}
 use Rattle.whole.proofs.Quote.{⟨_⟩, #, _⊕_, _⊝_, bal, by≡}
 use Rattle.whole.proofs.Each.{below-each}
 use Rattle.whole.proofs.Tests.{and-no}
-use Rattle.predict.specs.Lent.{Lent, lentOf, predicted, placeOk, lengthOk, rangeOk, predictionsOk, segmentOk, soundFrom, covers, answerAt}
+use Rattle.predict.specs.Lent.{Lent, lentOf, predicted, placeOk, lengthOk, rangeOk, predictionsOk, segmentOk, soundFrom, covers, coveredBy, predictionAt, answerAt}
 use Rattle.predict.specs.Ends.{reach}
 use Rattle.predict.proofs.Reach.{round-reach}
 
@@ -97,14 +100,23 @@ pub sound-head : (at : ℕ) (x : Lent) (xs : List Lent) → soundFrom at (x ∷ 
 unfolding soundFrom
 sound-head at x xs h = and-true (segmentOk at x) (soundFrom (at + posPart (x .count)) xs) h
 
+-- no segment covers a sample
+pub nothing-left : (k : ℕ) → answerAt [] k ≡ noNumber 9
+unfolding given coveredBy answerAt
+nothing-left k = refl
+
 -- whether a good segment covers a sample that is not before it
 module _ (at : ℕ) (x : Lent) (g : Good at x) (xs : List Lent) (k : ℕ) (from : at ≤ k) where
+  -- the answer by whether the first segment covers the sample
+  abbrev by-test : Bool → Number
+  by-test b = answerBy (unless (cond b true (coveredBy xs k)) 9) (cond b (predicted x (pos k -ℤ x .first)) (predictionAt xs k))
+
   ends : posPart (x .first +ℤ x .count) ≡ negPart (x .first +ℤ x .count) + (at + posPart (x .count))
   ends = omega (arith, bal (⟨ x .first ⟩ ⊕ ⟨ x .count ⟩), ap posPart (g .first), ap negPart (g .first), ap negPart (g .count))
 
   pub covered : k < at + posPart (x .count) → answerAt (x ∷ xs) k ≡ record { refusal = pos 0; value = predicted x (pos (k - at)) }
-  unfolding answerAt
-  covered h = ap (λ (b : Bool). cond b (record { refusal = pos 0; value = predicted x (pos k -ℤ x .first) }) (answerAt xs k)) yes-covers
+  unfolding given coveredBy predictionAt answerAt
+  covered h = ap (λ (b : Bool). by-test b) yes-covers
       ∙ (λ i. record { refusal = pos 0; value = predicted x (place i) })
     where
       place : pos k -ℤ x .first ≡ pos (k - at)
@@ -124,8 +136,8 @@ module _ (at : ℕ) (x : Lent) (g : Good at x) (xs : List Lent) (k : ℕ) (from 
       yes-covers = ap₂ (λ (a b : Bool). a && b) begins stops
 
   pub passed : at + posPart (x .count) ≤ k → answerAt (x ∷ xs) k ≡ answerAt xs k
-  unfolding answerAt
-  passed h = ap (λ (b : Bool). cond b (record { refusal = pos 0; value = predicted x (pos k -ℤ x .first) }) (answerAt xs k)) no-covers
+  unfolding coveredBy predictionAt answerAt
+  passed h = ap (λ (b : Bool). by-test b) no-covers
     where
       stops : ltZ (pos k) (x .first +ℤ x .count) ≡ false
       stops = go (ltZ (pos k) (x .first +ℤ x .count)) refl

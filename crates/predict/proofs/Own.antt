@@ -28,6 +28,7 @@ use Rattle.predict.specs.Lent.{Lent, lentOf, predicted, placeOk, lengthO
 use Rattle.predict.specs.Ends.{reach}
 use Rattle.predict.proofs.Reach.{round-reach}
 use Rattle.predict.proofs.Numbers.{Good, good, covered, passed}
+use Rattle.predict.proofs.Answers.{answer-sound}
 
 -- a number z that is within 65,536·t of 65,536·v
 module _ (z v : ℤ) (t : ℕ) (h : ∣ z -ℤ pos 65536 *ℤ v ∣ ≤ 65536 * t) where
@@ -143,5 +144,4 @@ module _ (s : List ℤ) (t : ℤ) (h : inRange s t ≡ true) where
   -- and predicts every sample, within the tolerance
   pub own-near : (k : ℕ) → k < length s
       → (predictOutcome (flat (trackOf s (posPart t))) k .refusal ≡ pos 0) × (∣ predictOutcome (flat (trackOf s (posPart t))) k .value -ℤ sample s k ∣ ≤ posPart t)
-  unfolding predictOutcome
-  own-near k l = let g = ranged s t h in rw own-sound (ruled-near s (posPart t) (g .small) (g .tol) (g .few) (trackOf-ruled s (posPart t) (g .small) (g .tol)) k (omega arith) l)
+  own-near k l = let g = ranged s t h in rw (answer-sound (flat (trackOf s (posPart t))) k own-sound) (ruled-near s (posPart t) (g .small) (g .tol) (g .few) (trackOf-ruled s (posPart t) (g .small) (g .tol)) k (omega arith) l)

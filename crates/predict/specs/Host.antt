@@ -1,15 +1,13 @@
--- Document 01, 'Track': "The host record of one prediction holds two doubles: seconds, the ps made a double and divided once by 1e12; and 32 MHz clock cycles, the
--- ps times 32, divided once by 1e6." In the logic's IEEE terms.
+-- Document 01, 'Track': the host record of a prediction, seconds and cycles of a clock of 32 MHz, both doubles. In the logic's IEEE terms.
 use Prim.Native.Nat.{ℕ}
-use mathlib.Core.Bool.{cond}
 use mathlib.Core.List.{List}
 use lib.IntN.{ℤ, pos, _*ℤ_}
-use lib.Signed.{leZ}
 use lib.Ieee as Ieee
 use lib.Ieee.{binary64, ofInt}
+use Rattle.whole.specs.Answers.{given}
 use Rattle.predict.specs.declared.Record.{Record}
 use Rattle.predict.specs.declared.Host.{Host}
-use Rattle.predict.specs.Lent.{predictOutcome}
+use Rattle.predict.specs.Lent.{lentOf, predictionAt, predictNumber}
 
 -- the record of a prediction of so many ps: each number is made a double, exactly, and divided once
 unfoldable pub recordOf : ℤ → Record
@@ -22,8 +20,12 @@ recordOf ps = record {
 abbrev pub zeros : Record
 zeros = record { seconds = ofInt binary64 (pos 0); cycles = ofInt binary64 (pos 0) }
 
--- what the call `host_at` answers: the record of the prediction, or two zeros where it is refused
+-- what the call `host_at` answers
+abbrev pub hostAnswer : ℤ → Host
+hostAnswer ps = record { refusal = pos 0; «record» = recordOf ps }
+
+abbrev pub noHost : ℕ → Host
+noHost n = record { refusal = pos n; «record» = zeros }
+
 unfoldable pub hostOutcome : List ℤ → ℕ → Host
-hostOutcome numbers k =
-    let n = predictOutcome numbers k in
-    record { refusal = n .refusal; «record» = cond (leZ (n .refusal) (pos 0)) (recordOf (n .value)) zeros }
+hostOutcome numbers k = given (predictNumber numbers k) (hostAnswer (predictionAt (lentOf numbers) k)) noHost

@@ -1,5 +1,4 @@
--- Document 01, 'Track' ("Numbers of a lent track after its last whole segment are not read. The prediction at a sample is R((A + r·j)/65,536)") and
--- refusal 9: a lent track, of any length and content, and what it predicts.
+-- Document 01, 'Track' and refusal 9: a lent track, of any length and content, and what it predicts. Numbers behind its last whole segment are not read.
 use Prim.Native.Nat.{ℕ, _+_}
 use mathlib.Core.Bool.{Bool, true, false, cond, _&&_}
 use mathlib.Core.List.{List, [], _∷_}
@@ -10,7 +9,8 @@ use Rattle.whole.specs.Whole.{posPart, ∣_∣, R}
 use Rattle.whole.specs.Each.{allBelow}
 use Rattle.whole.specs.declared.Number.{Number}
 use Rattle.whole.specs.Ranges.{within}
-use Rattle.whole.specs.Answers.{number, noNumber}
+use Rattle.whole.specs.Answers.{answerBy}
+use Rattle.whole.specs.Refusals.{unless, lowest}
 
 -- a segment's four numbers, as they are lent
 pub record Lent : Type 0 where
@@ -27,25 +27,25 @@ lentOf (f ∷ c ∷ []) = []
 lentOf (f ∷ []) = []
 lentOf [] = []
 
--- "The prediction at a sample is R((A + r·j)/65,536)"
+-- the prediction at the segment's sample j
 abbrev pub predicted : Lent → ℤ → ℤ
 predicted x j = R (x .offset +ℤ x .rate *ℤ j) 65536
 
 -- ---- the four conditions that a segment must meet, where `at` samples stand before it
 
--- place: "a gap or overlap, a first segment not at 0, over 4,096 samples in all"
+-- place: no gap and no overlap, the first segment at 0, and 4,096 samples at most in all
 abbrev pub placeOk : ℕ → Lent → Bool
 placeOk at x = leZ (pos at) (x .first) && leZ (x .first) (pos at) && leZ (pos at +ℤ x .count) (pos 4096)
 
--- length: "a length outside 1-1,024"
+-- length: from 1 to 1,024
 abbrev pub lengthOk : Lent → Bool
 lengthOk x = within (pos 1) (pos 1024) (x .count)
 
--- range: "A beyond ±9·10^15, r beyond ±2·10^16"
+-- range: A within ±9·10^15, r within ±2·10^16
 abbrev pub rangeOk : Lent → Bool
 rangeOk x = leb ∣ x .offset ∣ 9_000_000_000_000_000 && leb ∣ x .rate ∣ 20_000_000_000_000_000
 
--- predictions: "the prediction at any of its samples beyond ±131,000,000,000"
+-- predictions: within ±131,000,000,000 at each of its samples
 unfoldable pub predictionsOk : Lent → Bool
 predictionsOk x = allBelow (posPart (x .count)) (λ j. leb ∣ predicted x (pos j) ∣ 131_000_000_000)
 
@@ -68,11 +68,19 @@ unfoldable pub coveredBy : List Lent → ℕ → Bool
 coveredBy [] k = false
 coveredBy (x ∷ xs) k = let r = coveredBy xs k in cond (covers x k) true r
 
--- the prediction of the segment that covers sample k; "sample not covered" is 9
-unfoldable pub answerAt : List Lent → ℕ → Number
-answerAt [] k = noNumber 9
-answerAt (x ∷ xs) k = let r = answerAt xs k in cond (covers x k) (number (predicted x (pos k -ℤ x .first))) r
+-- the prediction of the segment that covers sample k
+unfoldable pub predictionAt : List Lent → ℕ → ℤ
+predictionAt [] k = pos 0
+predictionAt (x ∷ xs) k = let r = predictionAt xs k in cond (covers x k) (predicted x (pos k -ℤ x .first)) r
 
--- what the call `predict` answers: every whole segment is judged, also those after the one that covers sample k
+-- the number of a call: 9 for a malformed segment, also behind the one that covers sample k, and 9 for a sample that is not covered
+unfoldable pub predictNumber : List ℤ → ℕ → ℕ
+predictNumber numbers k = lowest (unless (soundFrom 0 (lentOf numbers)) 9 ∷ unless (coveredBy (lentOf numbers) k) 9 ∷ [])
+
+-- what the call `predict` answers
 unfoldable pub predictOutcome : List ℤ → ℕ → Number
-predictOutcome numbers k = cond (soundFrom 0 (lentOf numbers)) (answerAt (lentOf numbers) k) (noNumber 9)
+predictOutcome numbers k = answerBy (predictNumber numbers k) (predictionAt (lentOf numbers) k)
+
+-- for the code: the same where no segment is malformed
+unfoldable pub answerAt : List Lent → ℕ → Number
+answerAt xs k = answerBy (unless (coveredBy xs k) 9) (predictionAt xs k)

@@ -14,7 +14,7 @@ use Rattle.whole.proofs.Linear.{back, abs-fits, abs-sub}
 use Rattle.whole.proofs.Quote.{⟨_⟩, _⊕_, _⊝_, by≡}
 use Rattle.predict.specs.Lent.{Lent, lentOf, segmentOk, soundFrom, answerAt, predicted}
 use Rattle.predict.specs.Ends.{reach}
-use Rattle.predict.proofs.Numbers.{lentAt, lentOf-more, lentOf-none, Good, good, sound-head, covered, passed}
+use Rattle.predict.proofs.Numbers.{lentAt, lentOf-more, lentOf-none, Good, good, sound-head, nothing-left, covered, passed}
 use Rattle.predict.proofs.lent.prediction_at.Statement.{statement}
 use Rattle.predict.proofs.lent.prediction_at.Tie as tie
 
@@ -168,9 +168,8 @@ loop-again c = let d = c .before .before .before in let a = d .before in let s =
     )
 
 returns-2 : tie.Need-returns-2 Inv-loop μ-loop
-unfolding answerAt
-returns-2 c = let a = c .before in let s = a .before .args .track .now in
-    sym (a .loop .inv .5 ∙ ap (λ (l : List Lent). answerAt l (a .before .args .sample)) (lentOf-none s (a .loop .i) (omega (arith, c .loop-test .left))))
+returns-2 c = let a = c .before in let s = a .before .args .track .now in let k = a .before .args .sample in
+    sym (a .loop .inv .5 ∙ ap (λ (l : List Lent). answerAt l k) (lentOf-none s (a .loop .i) (omega (arith, c .loop-test .left))) ∙ nothing-left k)
 
 pub prediction-at-spec : {M : Type 1} → statement M
 prediction-at-spec =
