@@ -2,7 +2,7 @@
 -- number that is not negative are they; and the code's expressions as the proofs above read them. Assumes nothing.
 use mathlib.Core.Path.{_≡_, refl, ap, _∙_}
 use mathlib.Core.Bool.{_&&_}
-use Prim.Native.Nat.{ℕ, _+_, _/_, _%_, _^_, _≤_, _<_}
+use Prim.Native.Nat.{ℕ, _+_, _/_, _%_, _^_, _≤_, _<_, max}
 use native.Mathlib.Omega.{arith}
 use native.Mathlib.Nat.{div-add-mod', mod-lt}
 use lib.Dec.{T, ltb}
@@ -84,9 +84,9 @@ pub cast-gives : (m : M) → T (safe m) → T (nonNeg (toZ w64 (ofZ w64 (raw m))
 cast-gives m t h = not-below (toZ w64 (ofZ w64 (raw m))) h ∙ is m t
 
 -- ---- a value that lies in a range, as a leaf of an expression
-pub in-abs : {lo hi : ℤ} (z : ℤ) → In lo hi z → ∣ z ∣ ≤ negPart lo + posPart hi
+pub in-abs : {lo hi : ℤ} (z : ℤ) → In lo hi z → ∣ z ∣ ≤ max (negPart lo) (posPart hi)
 in-abs (pos n) i = omega (arith, i .p-hi)
 in-abs (negsuc n) i = omega (arith, i .n-lo)
 
 abbrev pub leaf : {lo hi : ℤ} (z : ℤ) → In lo hi z → M
-leaf {lo} {hi} z i = var z (negPart lo + posPart hi) (in-abs z i)
+leaf {lo} {hi} z i = var z (max (negPart lo) (posPart hi)) (in-abs z i)

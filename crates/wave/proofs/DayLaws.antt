@@ -10,20 +10,22 @@ use Rattle.whole.specs.Whole.{posPart, negPart, ∣_∣, line, floorZ}
 use Rattle.whole.proofs.Linear.{zarith, sub-lawℤ, parts-le, abs-add, abs-sub, abs-mul≤, size-to, in-le}
 use Rattle.whole.proofs.Quote.{⟨_⟩, #, _⊕_, _⊝_, _⊗_, ⊖, by≡, by≤, of≤, of<}
 use Rattle.whole.proofs.Rounding.{R-mul, line-size, floor-lo, floor-hi}
-use Rattle.fields.specs.Ranges.{Holds, millisecond}
 use Rattle.earth.specs.Ranges.{microsecond}
 use Rattle.earth.specs.declared.time.Epoch.{Epoch}
 use Rattle.earth.specs.TideInUT1.{tideOf}
+use Rattle.earth.proofs.Floors.{in-abs}
 use Rattle.earth.proofs.TideInUT1.{tide-most}
-use Rattle.session.specs.declared.Day.{Day}
+use Rattle.fields.specs.Ranges.{Holds, pole, ut1utc, millisecond}
+use Rattle.fields.specs.Records.{InDay}
+use Rattle.fields.specs.declared.Day.{Day}
 use Rattle.wave.specs.Bounds.{InRecord, InEarth}
 use Rattle.wave.specs.DayValues.{ut1rOf, leapOf, ut1Line, ut1Used, fOf, earthOf}
 
 pub ms-lo : {u : ℤ} → Holds millisecond u → pos 0 ≤ℤ u
 ms-lo {u} h = parts-le (pos 0) u (h .p-lo) (h .n-lo)
 
-pub ms-hi : {u : ℤ} → Holds millisecond u → u ≤ℤ pos 86399999
-ms-hi {u} h = parts-le u (pos 86399999) (h .p-hi) (h .n-hi)
+pub ms-hi : {u : ℤ} → Holds millisecond u → u ≤ℤ millisecond .high
+ms-hi {u} h = parts-le u (millisecond .high) (h .p-hi) (h .n-hi)
 
 ms-day : {u : ℤ} → Holds millisecond u → u ≤ℤ pos 86400000
 ms-day {u} h = omega (zarith, ms-hi h)
@@ -32,10 +34,17 @@ ms-day {u} h = omega (zarith, ms-hi h)
 pub between-size : (v0 v1 u : ℤ) (k : ℕ) → Holds millisecond u → ∣ v0 ∣ ≤ k → ∣ v1 ∣ ≤ k → ∣ line v0 v1 u ∣ ≤ k
 between-size v0 v1 u k h a b = line-size v0 v1 u k (ms-lo h) (ms-day h) a b
 
+pub pole-between : (v0 v1 u : ℤ) → Holds millisecond u → Holds pole v0 → Holds pole v1 → Holds pole (line v0 v1 u)
+pole-between v0 v1 u h a b = omega (arith, between-size v0 v1 u (posPart (pole .high)) h (in-abs v0 a) (in-abs v1 b))
+
 -- the UT1R that a record gives, by the range of its field
-pub ut1r-size : (r : Day) → ∣ r .«ut1_utc» ∣ ≤ 900000000 → ∣ ut1rOf r ∣ ≤ 902723000
+pub ut1r-size : (r : Day) → Holds ut1utc (r .«ut1_utc») → ∣ ut1rOf r ∣ ≤ 902_723_000
 unfolding ut1rOf
-ut1r-size r h = le-trans h (lit≤ tt)
+ut1r-size r h = le-trans (in-abs (r .«ut1_utc») h) (lit≤ tt)
+
+-- a day's record with its fields in their ranges
+pub record-in : (r : Day) → InDay r → InRecord r
+record-in r h = record { x = h .x; y = h .y; ut1-size = ut1r-size r (h .ut1-utc); tai = h .tai-utc }
 
 -- at most 99 seconds
 pub leap-size : (r0 r1 : Day) → InRecord r0 → InRecord r1 → ∣ leapOf r0 r1 ∣ ≤ 99000000000
@@ -103,6 +112,6 @@ pub earth-size : (r0 r1 : Day) (e : Epoch) → InRecord r0 → InRecord r1 → H
 unfolding earthOf
 earth-size r0 r1 e a b h =
     record {
-      x-size = between-size (r0 .x) (r1 .x) (e .ms) 1000000 h (a .x-size) (b .x-size);
-      y-size = between-size (r0 .y) (r1 .y) (e .ms) 1000000 h (a .y-size) (b .y-size);
+      x = pole-between (r0 .x) (r1 .x) (e .ms) h (a .x) (b .x);
+      y = pole-between (r0 .y) (r1 .y) (e .ms) h (a .y) (b .y);
     }

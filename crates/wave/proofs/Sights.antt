@@ -1,7 +1,7 @@
 -- Laws of what is fixed in a pass. Assumes nothing.
 use mathlib.Core.Path.{_≡_, refl}
-use Rattle.session.specs.declared.Station.{Station}
-use Rattle.session.specs.declared.Source.{Source}
+use Rattle.fields.specs.declared.Station.{Station}
+use Rattle.fields.specs.declared.Source.{Source}
 use Rattle.wave.specs.declared.values.Earth.{Earth}
 use Rattle.wave.specs.Delays.{delayBetween}
 use Rattle.wave.specs.Keeping.{sightOf, delaySeen}

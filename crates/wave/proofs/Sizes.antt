@@ -10,12 +10,15 @@ use Rattle.whole.proofs.Machine.{lit, var, _⊞_, _⊟_, _⊠_, val, bounded}
 use Rattle.whole.proofs.Rounding.{R-size}
 use Rattle.sine.specs.Sine.{sineOf, cosineOf}
 use Rattle.sine.proofs.Laws.{sine-size, cosine-size}
-use Rattle.session.specs.declared.Station.{Station}
-use Rattle.session.specs.declared.Source.{Source}
+use Rattle.earth.proofs.Floors.{leaf}
+use Rattle.fields.specs.Ranges.{Holds, pole}
+use Rattle.fields.specs.Records.{InStation}
+use Rattle.fields.specs.declared.Station.{Station}
+use Rattle.fields.specs.declared.Source.{Source}
 use Rattle.wave.specs.declared.plane.Baseline.{Baseline}
 use Rattle.wave.specs.declared.plane.Turn.{Turn}
 use Rattle.wave.specs.declared.values.Earth.{Earth}
-use Rattle.wave.specs.Bounds.{InStation, InEarth, Short, Shifted, Turned}
+use Rattle.wave.specs.Bounds.{InEarth, Short, Shifted, Turned}
 use Rattle.wave.specs.PlaneWave.{shiftOf, shiftedOf, hourAngle, tickOf, turnOf, equatorial, alongSource, waveOf}
 use Rattle.wave.specs.Delays.{baselineOf, angleFor, delayBetween}
 
@@ -40,14 +43,14 @@ wave-size b h d k t =
     R-size (val m) 299792458 130000000000 (omega arith) (le-trans (bounded m) (lit≤ tt))
 
 -- the pole shift is small, and so the baseline stays within its bounds
-shift-size : (c p : ℤ) → ∣ c ∣ ≤ 12800000000 → ∣ p ∣ ≤ 1000000 → ∣ shiftOf c p ∣ ≤ 62057
+shift-size : (c p : ℤ) → ∣ c ∣ ≤ 12_800_000_000 → Holds pole p → ∣ shiftOf c p ∣ ≤ 62057
 unfolding shiftOf
 shift-size c p h k =
-    let m = var c 12800000000 h ⊠ var p 1000000 k in
+    let m = var c 12_800_000_000 h ⊠ leaf p k in
     let n = var (R (val m) 1000000) 12800000000 (R-size (val m) 1000000 12800000000 (omega arith) (bounded m)) ⊠ lit (pos 4848137) in
     R-size (val n) 1000000000000 62057 (omega arith) (le-trans (bounded n) (lit≤ tt))
 
-pub shifted-size : (b : Baseline) (x y : ℤ) → Short b → ∣ x ∣ ≤ 1000000 → ∣ y ∣ ≤ 1000000 → Shifted (shiftedOf b x y)
+pub shifted-size : (b : Baseline) (x y : ℤ) → Short b → Holds pole x → Holds pole y → Shifted (shiftedOf b x y)
 unfolding shiftedOf
 shifted-size b x y h p q =
     let zx = shift-size (b .z) x (h .z-size) p in
@@ -68,9 +71,9 @@ baseline-size : (p q : Station) → InStation p → InStation q → Short (basel
 unfolding baselineOf
 baseline-size p q h k =
     record {
-      x-size = bounded (var (q .x) 6400000000 (k .x-size) ⊟ var (p .x) 6400000000 (h .x-size));
-      y-size = bounded (var (q .y) 6400000000 (k .y-size) ⊟ var (p .y) 6400000000 (h .y-size));
-      z-size = bounded (var (q .z) 6400000000 (k .z-size) ⊟ var (p .z) 6400000000 (h .z-size));
+      x-size = bounded (leaf (q .x) (k .x) ⊟ leaf (p .x) (h .x));
+      y-size = bounded (leaf (q .y) (k .y) ⊟ leaf (p .y) (h .y));
+      z-size = bounded (leaf (q .z) (k .z) ⊟ leaf (p .z) (h .z));
     }
 
 -- of two station records, any source record, and a pole within its range
@@ -78,5 +81,5 @@ pub between-size : (p q : Station) (r : Source) (e : Earth) → InStation p → 
 unfolding delayBetween
 between-size p q r e h k l =
     wave-size (shiftedOf (baselineOf p q) (e .x) (e .y)) (hourAngle (angleFor r e) (tickOf (r .«right_ascension»))) (turnOf (tickOf (r .declination)))
-    (shifted-size (baselineOf p q) (e .x) (e .y) (baseline-size p q h k) (l .x-size) (l .y-size))
+    (shifted-size (baselineOf p q) (e .x) (e .y) (baseline-size p q h k) (l .x) (l .y))
     (turn-size (tickOf (r .declination)))

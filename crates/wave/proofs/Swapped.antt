@@ -7,8 +7,8 @@ use Rattle.whole.specs.Whole.{R}
 use Rattle.whole.proofs.Linear.{zarith, posPart-neg, negPart-neg}
 use Rattle.whole.proofs.Quote.{⟨_⟩, #, _⊕_, _⊝_, _⊗_, ⊖, by≡}
 use Rattle.whole.proofs.Rounding.{R-neg}
-use Rattle.session.specs.declared.Station.{Station}
-use Rattle.session.specs.declared.Source.{Source}
+use Rattle.fields.specs.declared.Station.{Station}
+use Rattle.fields.specs.declared.Source.{Source}
 use Rattle.sine.specs.Sine.{sineOf, cosineOf}
 use Rattle.wave.specs.declared.plane.Baseline.{Baseline}
 use Rattle.wave.specs.declared.plane.Turn.{Turn}

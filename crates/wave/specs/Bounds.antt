@@ -1,33 +1,31 @@
 -- How large the numbers of a delay can be: what the code asks of its inputs, by the ranges of document 01's fields.
 use Prim.Native.Nat.{_^_, _≤_}
-use lib.IntN.{ℤ, pos, negℤ}
+use lib.IntN.{ℤ}
 use Rattle.whole.specs.Ranges.{In}
 use Rattle.whole.specs.Whole.{∣_∣}
-use Rattle.fields.specs.Ranges.{Holds, taiutc}
-use Rattle.session.specs.declared.Station.{Station}
-use Rattle.session.specs.declared.Source.{Source}
-use Rattle.session.specs.declared.Day.{Day}
+use Rattle.fields.specs.Ranges.{Holds, rightAscension, declination, pole, taiutc}
+use Rattle.fields.specs.declared.Day.{Day}
 use Rattle.wave.specs.DayValues.{ut1rOf}
 use Rattle.wave.specs.declared.Sight.{Sight}
 use Rattle.wave.specs.declared.plane.Baseline.{Baseline}
 use Rattle.wave.specs.declared.plane.Turn.{Turn}
 use Rattle.wave.specs.declared.values.Earth.{Earth}
 
--- a right ascension or a declination
+-- a right ascension or a declination: from the lowest of the second to the highest of the first
 abbrev pub InTick : ℤ → Type 0
-InTick a = In (negℤ (pos 1073741824)) (pos 4294967295) a
+InTick a = In (declination .low) (rightAscension .high) a
 
 -- the difference of two stations
 pub record Short (b : Baseline) : Type 0 where
-  pub x-size : ∣ b .x ∣ ≤ 12800000000
-  pub y-size : ∣ b .y ∣ ≤ 12800000000
-  pub z-size : ∣ b .z ∣ ≤ 12800000000
+  pub x-size : ∣ b .x ∣ ≤ 12_800_000_000
+  pub y-size : ∣ b .y ∣ ≤ 12_800_000_000
+  pub z-size : ∣ b .z ∣ ≤ 12_800_000_000
 
 -- the same after the pole shift
 pub record Shifted (b : Baseline) : Type 0 where
-  pub x-size : ∣ b .x ∣ ≤ 12800062057
-  pub y-size : ∣ b .y ∣ ≤ 12800062057
-  pub z-size : ∣ b .z ∣ ≤ 12800124114
+  pub x-size : ∣ b .x ∣ ≤ 12_800_062_057
+  pub y-size : ∣ b .y ∣ ≤ 12_800_062_057
+  pub z-size : ∣ b .z ∣ ≤ 12_800_124_114
 
 -- a cosine and a sine
 pub record Turned (t : Turn) : Type 0 where
@@ -36,26 +34,15 @@ pub record Turned (t : Turn) : Type 0 where
 
 -- an orientation record
 pub record InRecord (r : Day) : Type 0 where
-  pub x-size : ∣ r .x ∣ ≤ 1000000
-  pub y-size : ∣ r .y ∣ ≤ 1000000
-  pub ut1-size : ∣ ut1rOf r ∣ ≤ 902723000
+  pub x : Holds pole (r .x)
+  pub y : Holds pole (r .y)
+  pub ut1-size : ∣ ut1rOf r ∣ ≤ 902_723_000
   pub tai : Holds taiutc (r .«tai_utc»)
 
 -- the earth at an epoch: its pole
 pub record InEarth (e : Earth) : Type 0 where
-  pub x-size : ∣ e .x ∣ ≤ 1000000
-  pub y-size : ∣ e .y ∣ ≤ 1000000
-
--- a station's record
-pub record InStation (a : Station) : Type 0 where
-  pub x-size : ∣ a .x ∣ ≤ 6400000000
-  pub y-size : ∣ a .y ∣ ≤ 6400000000
-  pub z-size : ∣ a .z ∣ ≤ 6400000000
-
--- a source's record
-pub record InSource (r : Source) : Type 0 where
-  pub ascension : InTick (r .«right_ascension»)
-  pub declined : InTick (r .declination)
+  pub x : Holds pole (e .x)
+  pub y : Holds pole (e .y)
 
 -- what is fixed in a pass
 pub record InSight (v : Sight) : Type 0 where

@@ -4,7 +4,7 @@ use Rattle.whole.specs.Whole.{line, floorZ}
 use Rattle.earth.specs.declared.time.Epoch.{Epoch}
 use Rattle.earth.specs.TideInUT1.{tideOf}
 use Rattle.earth.specs.Angle.{eraOf}
-use Rattle.session.specs.declared.Day.{Day}
+use Rattle.fields.specs.declared.Day.{Day}
 use Rattle.wave.specs.declared.values.Earth.{Earth}
 
 -- "UT1-UTC in the file is UT1R, with the short tide removed": the UT1R that a record gives is its field.

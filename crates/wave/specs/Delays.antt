@@ -1,8 +1,8 @@
 -- Document 01, 'Delay': the delay of two station records and a source record, with the earth as it is at an epoch.
 use Prim.Native.Nat.{ℕ}
 use lib.IntN.{ℤ, _-ℤ_}
-use Rattle.session.specs.declared.Station.{Station}
-use Rattle.session.specs.declared.Source.{Source}
+use Rattle.fields.specs.declared.Station.{Station}
+use Rattle.fields.specs.declared.Source.{Source}
 use Rattle.wave.specs.declared.plane.Baseline.{Baseline}
 use Rattle.wave.specs.declared.values.Earth.{Earth}
 use Rattle.wave.specs.PlaneWave.{shiftedOf, hourAngle, tickOf, turnOf, waveOf}

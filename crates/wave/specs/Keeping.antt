@@ -2,8 +2,8 @@
 use mathlib.Core.Path.{_≡_}
 use lib.IntN.{ℤ}
 use Rattle.earth.specs.TideInUT1.{tideAt}
-use Rattle.session.specs.declared.Station.{Station}
-use Rattle.session.specs.declared.Source.{Source}
+use Rattle.fields.specs.declared.Station.{Station}
+use Rattle.fields.specs.declared.Source.{Source}
 use Rattle.wave.specs.declared.Sight.{Sight}
 use Rattle.wave.specs.declared.values.Earth.{Earth}
 use Rattle.wave.specs.declared.values.Minute.{Minute}

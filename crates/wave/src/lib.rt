@@ -2,16 +2,17 @@
 pub mod plane;
 pub mod values;
 
+use fields::Source;
+use fields::Station;
 use plane::Baseline;
 use plane::Turn;
 use plane::delay_at;
 use plane::tick;
 use plane::turn_by;
-use session::Source;
-use session::Station;
 use values::Earth;
 ghost use mathlib.Core.Path.{_≡_};
-ghost use Rattle.wave.specs.Bounds.{InEarth, InSight, InSource, InStation, Short};
+ghost use Rattle.fields.specs.Records.{InSource, InStation};
+ghost use Rattle.wave.specs.Bounds.{InEarth, InSight, Short};
 ghost use Rattle.wave.specs.Delays.{angleFor, baselineOf, delayBetween};
 ghost use Rattle.wave.specs.Keeping.{delaySeen, sightOf};
 

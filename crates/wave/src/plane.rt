@@ -7,6 +7,7 @@ use whole::long::turned;
 ghost use mathlib.Core.Path.{_≡_};
 ghost use Prim.Native.Nat.{_≤_};
 ghost use Rattle.whole.specs.Whole.{∣_∣};
+ghost use Rattle.fields.specs.Ranges.{Holds, pole};
 ghost use Rattle.wave.specs.PlaneWave.{shiftOf, shiftedOf, tickOf, turnOf, waveOf};
 ghost use Rattle.wave.specs.Bounds.{InTick, Short, Shifted, Turned};
 
@@ -25,7 +26,7 @@ pub struct Turn {
 
 // The pole shift of a length c by a pole coordinate p.
 fn shift(c: i64, p: i64) -> i64
-    requires { ⌜ (∣ c ∣ ≤ 12800000000) × (∣ p ∣ ≤ 1000000) ⌝ }
+    requires { ⌜ (∣ c ∣ ≤ 12_800_000_000) × Holds pole p ⌝ }
     ensures { λ r. ⌜ (r ≡ shiftOf c p) × (∣ r ∣ ≤ 62057) ⌝ }
 {
     round_div(round_div(c * p, 1000000) * 4848137, 1000000000000)
@@ -33,7 +34,7 @@ fn shift(c: i64, p: i64) -> i64
 
 // The baseline, shifted by the pole at x, y.
 fn shifted(b: Baseline, x: i64, y: i64) -> Baseline
-    requires { ⌜ Short b × (∣ x ∣ ≤ 1000000) × (∣ y ∣ ≤ 1000000) ⌝ }
+    requires { ⌜ Short b × Holds pole x × Holds pole y ⌝ }
     ensures { λ r. ⌜ (r ≡ shiftedOf b x y) × Shifted r ⌝ }
 {
     let zx = shift(b.z, x);
@@ -82,7 +83,7 @@ fn wave(b: Baseline, h: u32, d: Turn) -> i64
 
 // The delay of a baseline with the pole at x, y, at hour angle h, along that declination.
 pub fn delay_at(b: Baseline, x: i64, y: i64, h: u32, d: Turn) -> i64
-    requires { ⌜ Short b × (∣ x ∣ ≤ 1000000) × (∣ y ∣ ≤ 1000000) × Turned d ⌝ }
+    requires { ⌜ Short b × Holds pole x × Holds pole y × Turned d ⌝ }
     ensures { λ r. ⌜ r ≡ waveOf (shiftedOf b x y) h d ⌝ }
 {
     wave(shifted(b, x, y), h, d)

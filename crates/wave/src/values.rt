@@ -2,7 +2,7 @@
 use earth::Epoch;
 use earth::rows::tide_at_minute;
 use earth::turn::turn_of;
-use session::Day;
+use fields::Day;
 use whole::divide::line_at;
 use whole::long::rotation_ticks;
 ghost use mathlib.Core.Path.{_≡_};

@@ -1,18 +1,19 @@
 -- `wave::between` meets its contract.
-use Rattle.whole.proofs.Machine.{M, var, _⊟_, bounded, ok, is}
+use Rattle.whole.proofs.Machine.{M, _⊟_, bounded, ok, is}
+use Rattle.earth.proofs.Floors.{leaf}
 use Rattle.wave.specs.Delays.{baselineOf}
 use Rattle.wave.proofs.between.Statement.{statement}
 use Rattle.wave.proofs.between.Tie as tie
 
 module _ (s : tie.Start) where
   abbrev x : M
-  x = var (s .args .b .x) 6400000000 (s .pre .1 .x-size) ⊟ var (s .args .a .x) 6400000000 (s .pre .0 .x-size)
+  x = leaf (s .args .b .x) (s .pre .1 .x) ⊟ leaf (s .args .a .x) (s .pre .0 .x)
 
   abbrev y : M
-  y = var (s .args .b .y) 6400000000 (s .pre .1 .y-size) ⊟ var (s .args .a .y) 6400000000 (s .pre .0 .y-size)
+  y = leaf (s .args .b .y) (s .pre .1 .y) ⊟ leaf (s .args .a .y) (s .pre .0 .y)
 
   abbrev z : M
-  z = var (s .args .b .z) 6400000000 (s .pre .1 .z-size) ⊟ var (s .args .a .z) 6400000000 (s .pre .0 .z-size)
+  z = leaf (s .args .b .z) (s .pre .1 .z) ⊟ leaf (s .args .a .z) (s .pre .0 .z)
 
 sub-t3 : tie.Need-sub-t3
 sub-t3 c = ok (x (c .before .before .before .before)) tt

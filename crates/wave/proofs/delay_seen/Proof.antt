@@ -7,9 +7,10 @@ use lib.IntN.{pos, negℤ, _-ℤ_}
 use mir.Syntax.{w64}
 use mir.Val.{toZ, ofZ}
 use Rattle.whole.proofs.Linear.{ret}
-use Rattle.whole.proofs.Machine.{var, is}
+use Rattle.whole.proofs.Machine.{is}
 use Rattle.whole.proofs.Quote.{#, _⊕_, _⊝_, _⊗_, ⊖, by≡}
 use Rattle.whole.proofs.Rounding.{mod-unique}
+use Rattle.earth.proofs.Floors.{leaf}
 use Rattle.wave.specs.Keeping.{delaySeen}
 use Rattle.wave.specs.PlaneWave.{hourAngle}
 use Rattle.wave.proofs.delay_seen.Statement.{statement}
@@ -24,10 +25,10 @@ wrapped r a b h e =
 
 module _ (s : tie.Start) where
   x-back : toZ w64 (ofZ w64 (s .args .e .x)) ≡ s .args .e .x
-  x-back = is (var (s .args .e .x) 1000000 (s .pre .1 .x-size)) tt
+  x-back = is (leaf (s .args .e .x) (s .pre .1 .x)) tt
 
   y-back : toZ w64 (ofZ w64 (s .args .e .y)) ≡ s .args .e .y
-  y-back = is (var (s .args .e .y) 1000000 (s .pre .1 .y-size)) tt
+  y-back = is (leaf (s .args .e .y) (s .pre .1 .y)) tt
 
 angle-for-requires : tie.Need-angle-for-requires
 angle-for-requires c κs = search needs

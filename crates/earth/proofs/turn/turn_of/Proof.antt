@@ -78,10 +78,10 @@ module _ (s : tie.Start) where
       by≡ (# (start + 273781191135448 * cast (days s))) (day-part (s .args .day) turns)
       (omega (arith, of≡ (# (cast (days s))) (read (days s)) days-is))
 
-  few-us : cast (us s) ≤ 86708000000
+  few-us : cast (us s) ≤ 86_608_000_000
   few-us = cast-bnd (us s) tt
 
-few-ms : (c : tie.After-whole-ms) → cast (ms c) ≤ 86708000
+few-ms : (c : tie.After-whole-ms) → cast (ms c) ≤ 86_608_000
 few-ms c = cast-bnd (ms c) tt
 
 returns : tie.Need-returns

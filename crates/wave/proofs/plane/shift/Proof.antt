@@ -9,13 +9,14 @@ use Rattle.whole.specs.Whole.{∣_∣, R}
 use Rattle.whole.proofs.Linear.{ret}
 use Rattle.whole.proofs.Machine.{M, lit, var, _⊠_, val, bounded, ok, is}
 use Rattle.whole.proofs.Rounding.{R-size}
+use Rattle.earth.proofs.Floors.{leaf}
 use Rattle.wave.specs.PlaneWave.{shiftOf}
 use Rattle.wave.proofs.plane.shift.Statement.{statement}
 use Rattle.wave.proofs.plane.shift.Tie as tie
 
 module _ (s : tie.Start) where
   abbrev product : M
-  product = var (s .args .c) 12800000000 (s .pre .0) ⊠ var (s .args .p) 1000000 (s .pre .1)
+  product = var (s .args .c) 12800000000 (s .pre .0) ⊠ leaf (s .args .p) (s .pre .1)
 
 inner : (c : tie.After-round-div) → c .round-div .result ≡ R (val (product (c .before))) 1000000
 inner c = rw (is (product (c .before)) tt) at (c .round-div .ensures)

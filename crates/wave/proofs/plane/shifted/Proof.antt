@@ -3,6 +3,7 @@ use mathlib.Core.Path.{ap, _∙_}
 use borrow.Author.Needs.{needs}
 use lib.IntN.{ℤ, _+ℤ_, _-ℤ_}
 use Rattle.whole.proofs.Machine.{M, var, _⊞_, _⊟_, val, bounded, ok, is}
+use Rattle.earth.proofs.Floors.{leaf}
 use Rattle.wave.specs.PlaneWave.{shiftOf, shiftedOf}
 use Rattle.wave.proofs.plane.shifted.Statement.{statement}
 use Rattle.wave.proofs.plane.shifted.Tie as tie
@@ -18,10 +19,10 @@ module _ (s : tie.Start) where
   bz = var (s .args .b .z) 12800000000 (s .pre .0 .z-size)
 
   abbrev px : M
-  px = var (s .args .x) 1000000 (s .pre .1)
+  px = leaf (s .args .x) (s .pre .1)
 
   abbrev py : M
-  py = var (s .args .y) 1000000 (s .pre .2)
+  py = leaf (s .args .y) (s .pre .2)
 
 -- the four shifts, as the calls gave them
 module _ (c : tie.After-shift4) where

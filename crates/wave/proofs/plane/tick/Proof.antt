@@ -9,15 +9,15 @@ use lib.Signed.{ltZ, nonNeg}
 use mir.Syntax.{w32}
 use mir.Val.{Fits}
 use Rattle.whole.proofs.Linear.{zarith, add-law, back, ltZ-true, no-tf}
-use Rattle.whole.proofs.Machine.{M, lit, var, _⊞_, ok, is}
-use Rattle.earth.proofs.Floors.{in-abs}
+use Rattle.whole.proofs.Machine.{M, lit, _⊞_, ok, is}
+use Rattle.earth.proofs.Floors.{leaf}
 use Rattle.wave.specs.Bounds.{InTick}
 use Rattle.wave.specs.PlaneWave.{tickOf}
 use Rattle.wave.proofs.plane.tick.Statement.{statement}
 use Rattle.wave.proofs.plane.tick.Tie as tie
 
 abbrev sum : tie.Start → M
-sum s = var (s .args .a) 5368709119 (in-abs (s .args .a) (s .pre)) ⊞ lit (pos 4294967296)
+sum s = leaf (s .args .a) (s .pre) ⊞ lit (pos 4294967296)
 
 -- a tick below zero, moved up by a turn, and one that is not
 down : (a : ℤ) → InTick a → ltZ a (pos 0) ≡ true → (T (nonNeg (a +ℤ pos 4294967296)) × Fits w32 (natAbs (a +ℤ pos 4294967296))) × (natAbs (a +ℤ pos 4294967296) ≡ tickOf a)

@@ -1,16 +1,13 @@
 -- `wave::values::earth_at` meets its contract.
 use mathlib.Core.Path.{_≡_, sym, ap, subst, _∙_}
-use Prim.Native.Nat.{_≤_}
-use native.Mathlib.Nat.{le-trans}
 use native.Mathlib.Omega.{arith}
-use lib.Dec.{lit≤}
 use lib.IntN.{ℤ, _+ℤ_}
 use mir.Syntax.{w64}
 use mir.Val.{toZ, ofZ}
 use Rattle.whole.proofs.Linear.{abs-sub, back, ret}
-use Rattle.whole.proofs.Machine.{M, var, is}
+use Rattle.whole.proofs.Machine.{M, is}
 use Rattle.earth.specs.Angle.{eraOf}
-use Rattle.earth.proofs.Floors.{in-abs}
+use Rattle.earth.proofs.Floors.{leaf}
 use Rattle.wave.specs.declared.values.Earth.{Earth}
 use Rattle.wave.specs.Bounds.{InEarth}
 use Rattle.wave.specs.DayValues.{ut1Line, ut1Used, fOf, earthOf}
@@ -20,28 +17,28 @@ use Rattle.wave.proofs.values.earth_at.Tie as tie
 
 module _ (s : tie.Start) where
   ms-back : toZ w64 (ofZ w64 (s .args .e .ms)) ≡ s .args .e .ms
-  ms-back = is (var (s .args .e .ms) 86399999 (in-abs (s .args .e .ms) (s .pre .0 .3))) tt
+  ms-back = is (leaf (s .args .e .ms) (s .pre .0 .3)) tt
 
   day-back : toZ w64 (ofZ w64 (s .args .e .day)) ≡ s .args .e .day
-  day-back = is (var (s .args .e .day) 69806 (in-abs (s .args .e .day) (s .pre .0 .2))) tt
+  day-back = is (leaf (s .args .e .day) (s .pre .0 .2)) tt
 
   abbrev x0 : M
-  x0 = var (s .args .r0 .x) 1000000 (s .pre .0 .0 .x-size)
+  x0 = leaf (s .args .r0 .x) (s .pre .0 .0 .x)
 
   abbrev x1 : M
-  x1 = var (s .args .r1 .x) 1000000 (s .pre .0 .1 .x-size)
+  x1 = leaf (s .args .r1 .x) (s .pre .0 .1 .x)
 
   abbrev y0 : M
-  y0 = var (s .args .r0 .y) 1000000 (s .pre .0 .0 .y-size)
+  y0 = leaf (s .args .r0 .y) (s .pre .0 .0 .y)
 
   abbrev y1 : M
-  y1 = var (s .args .r1 .y) 1000000 (s .pre .0 .1 .y-size)
+  y1 = leaf (s .args .r1 .y) (s .pre .0 .1 .y)
 
 line-at-requires : tie.Need-line-at-requires
 line-at-requires c κs =
     let s = c .before .before .before in
     simp (is (x0 s) tt, is (x1 s) tt, ms-back s) (
-      (le-trans (s .pre .0 .0 .x-size) (lit≤ tt), le-trans (s .pre .0 .1 .x-size) (lit≤ tt), let h0 = s .pre .0 .0 .x-size in let h1 = s .pre .0 .1 .x-size in omega (arith, abs-sub (s .args .r1 .x) (s .args .r0 .x))),
+      omega (arith, s .pre .0 .0 .x, s .pre .0 .1 .x, abs-sub (s .args .r1 .x) (s .args .r0 .x)),
       (ms-lo (s .pre .0 .3), ms-hi (s .pre .0 .3)),
     )
 
@@ -49,7 +46,7 @@ line-at-requires-2 : tie.Need-line-at-requires-2
 line-at-requires-2 c κs =
     let s = c .before .before .before .before .before .before in
     simp (is (y0 s) tt, is (y1 s) tt, ms-back s) (
-      (le-trans (s .pre .0 .0 .y-size) (lit≤ tt), le-trans (s .pre .0 .1 .y-size) (lit≤ tt), let h0 = s .pre .0 .0 .y-size in let h1 = s .pre .0 .1 .y-size in omega (arith, abs-sub (s .args .r1 .y) (s .args .r0 .y))),
+      omega (arith, s .pre .0 .0 .y, s .pre .0 .1 .y, abs-sub (s .args .r1 .y) (s .args .r0 .y)),
       (ms-lo (s .pre .0 .3), ms-hi (s .pre .0 .3)),
     )
 

@@ -10,7 +10,7 @@ use Rattle.whole.proofs.Machine.{M, lit, var, _⊞_, _⊟_, _⊠_, _⊘_, val, 
 use Rattle.whole.proofs.Quote.{⟨_⟩, #, _⊕_, _⊝_, _⊗_, by≡, by≤}
 use Rattle.earth.specs.Angle.{eOf, eraOf}
 use Rattle.earth.proofs.Angle.{e-below}
-use Rattle.earth.proofs.Floors.{in-abs, quot-floor, floor-more}
+use Rattle.earth.proofs.Floors.{leaf, quot-floor, floor-more}
 use Rattle.wave.specs.DayValues.{fOf}
 use Rattle.wave.proofs.DayLaws.{f-in}
 use Rattle.wave.proofs.values.era_at.Statement.{statement}
@@ -25,7 +25,7 @@ module _ (s : tie.Start) where
 
   -- what f is made of
   abbrev thousand : M
-  thousand = lit (pos 1000) ⊠ var u 86399999 (in-abs u (s .pre .1))
+  thousand = lit (pos 1000) ⊠ leaf u (s .pre .1)
 
   abbrev lifted : M
   lifted = var ut1 99905446000 (s .pre .2) ⊞ lit (pos 100000000000)

@@ -1,18 +1,13 @@
 -- `wave::values::leap` meets its contract.
 use lib.IntN.{pos}
-use Rattle.whole.proofs.Machine.{M, lit, var, _⊟_, _⊠_, ok, is}
-use Rattle.earth.proofs.Floors.{in-abs}
-use Rattle.session.specs.declared.Day.{Day}
-use Rattle.wave.specs.Bounds.{InRecord}
+use Rattle.whole.proofs.Machine.{M, lit, _⊟_, _⊠_, ok, is}
+use Rattle.earth.proofs.Floors.{leaf}
 use Rattle.wave.specs.DayValues.{leapOf}
 use Rattle.wave.proofs.values.leap.Statement.{statement}
 use Rattle.wave.proofs.values.leap.Tie as tie
 
-abbrev tai : (r : Day) → InRecord r → M
-tai r h = var (r .«tai_utc») 99 (in-abs (r .«tai_utc») (h .tai))
-
 abbrev seconds : tie.Start → M
-seconds s = tai (s .args .r1) (s .pre .1) ⊟ tai (s .args .r0) (s .pre .0)
+seconds s = leaf (s .args .r1 .«tai_utc») (s .pre .1 .tai) ⊟ leaf (s .args .r0 .«tai_utc») (s .pre .0 .tai)
 
 abbrev nanoseconds : tie.Start → M
 nanoseconds s = seconds s ⊠ lit (pos 1000000000)

@@ -5,15 +5,15 @@ use lib.Dec.{lit<}
 use mir.Syntax.{w64}
 use mir.Val.{toZ, ofZ}
 use Rattle.whole.proofs.Linear.{ret}
-use Rattle.whole.proofs.Machine.{var, is}
+use Rattle.whole.proofs.Machine.{is}
 use Rattle.earth.specs.Minutes.{minutesOf}
-use Rattle.earth.proofs.Floors.{in-abs}
+use Rattle.earth.proofs.Floors.{leaf}
 use Rattle.earth.proofs.Minutes.{minutes-most}
 use Rattle.wave.proofs.values.minutes_by.Statement.{statement}
 use Rattle.wave.proofs.values.minutes_by.Tie as tie
 
 tai-back : (s : tie.Start) → toZ w64 (ofZ w64 (s .args .r0 .«tai_utc»)) ≡ s .args .r0 .«tai_utc»
-tai-back s = is (var (s .args .r0 .«tai_utc») 99 (in-abs (s .args .r0 .«tai_utc») (s .pre .0 .tai))) tt
+tai-back s = is (leaf (s .args .r0 .«tai_utc») (s .pre .0 .tai)) tt
 
 minutes-requires : tie.Need-minutes-requires
 minutes-requires c κs = let s = c .before in (s .pre .1, s .pre .2, rw (tai-back s) (s .pre .0 .tai))

@@ -6,7 +6,7 @@ use Rattle.wave.proofs.values.ut1r.Tie as tie
 
 returns : tie.Need-returns
 unfolding ut1rOf
-returns c = ret (c .before .args .r .«ut1_utc») (c .struct-told .given .1 .1 .1 .1 .0 .1)
+returns c = ret (c .before .args .r .«ut1_utc») (c .struct-told .given .1 .1 .1 .0 .1)
 
 pub ut1r-spec : {M : Type 1} → statement M
 ut1r-spec = tie.close (tie.spec returns)
