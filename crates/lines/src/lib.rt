@@ -1,8 +1,8 @@
 // The text that the program prints of a file, put into a lent room: specs/Text.antt says what it is.
+use fringe::pass_track;
 use text::decimal::put_natural;
 use text::decimal::put_number;
 use text::decimal::put_word;
-use fringe::pass_track;
 use whole::sign::size;
 ghost use mathlib.Core.Path.{_≡_};
 ghost use Prim.Native.Nat.{_+_, _*_, _≤_};

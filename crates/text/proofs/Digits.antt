@@ -56,7 +56,7 @@ module _ (F : ℕ → Type 0) (one : (n : ℕ) → n < 10 → F n) (more : (n : 
   up-to zero n h = absurd (omega arith)
   up-to (suc k) n h = by-size n (λ (m : 10 ≤ n). up-to k (n / 10) (omega arith)) (ltb n 10) refl
 
-  by-tenths : (n : ℕ) → F n
+  pub by-tenths : (n : ℕ) → F n
   by-tenths n = up-to (suc n) n (omega arith)
 
 -- ---- the digits say the number

@@ -5,3 +5,5 @@ pub mod All
 pub mod Paste
 pub mod Digits
 pub mod Puts
+pub mod Reading
+pub mod LineFeeds

@@ -1,7 +1,7 @@
 -- Bytes put one behind the other. Assumes nothing.
 use mathlib.Core.Path.{_≡_, refl, sym, ap, ap₂, _∙_}
 use mathlib.Core.List.{List, [], _∷_, _++_}
-use Prim.Native.Nat.{ℕ, suc, _+_, _≤_, _<_}
+use Prim.Native.Nat.{ℕ, suc, _+_, _-_, _≤_, _<_}
 use native.Mathlib.Omega.{arith}
 use lib.ListN.{length, set, take, drop, length-append}
 use lib.Seq.{length-take-le, set-split, take-set-le, drop-at, append-snoc, take-append-seam}
@@ -20,6 +20,16 @@ module _ {d e bs : List ℕ} {at a : ℕ} (p : Put d at bs e a) (h : a ≤ lengt
         bytes = q .bytes ∙ ap₂ (λ (x : List ℕ) (k : ℕ). pasted x k cs) (p .bytes) (p .place) ∙ pasted-next d at bs (omega (arith, p .place)) cs;
         place = omega (arith, p .place, q .place, length-append bs cs);
       }
+
+  -- the bytes stand between the two places
+  pub put-part : take (a - at) (drop at e) ≡ bs
+  unfolding pasted
+  put-part =
+      let l : a - at ≡ length bs = omega (arith, p .place) in
+      let m : length (take at d) ≡ at = length-take-le at d (omega (arith, p .place)) in
+      ap₂ (λ (n : ℕ) (x : List ℕ). take n (drop at x)) l (p .bytes)
+      ∙ ap (take (length bs)) (drop-at (take at d) (bs ++ drop (at + length bs) d) at m)
+      ∙ take-append-seam bs (drop (at + length bs) d)
 
 -- the place behind the bytes is in the room
 pub put-inside : {d e bs : List ℕ} {a : ℕ} → Put d 0 bs e a → a ≤ length e

@@ -3,3 +3,4 @@ pub mod Bytes
 pub mod Code
 pub mod Decimal
 pub mod Put
+pub mod Lines

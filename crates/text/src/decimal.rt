@@ -1,12 +1,13 @@
-// Numbers and words as bytes of ASCII, put into a lent room. Each function answers the place behind what it put.
+// Numbers and words as bytes of ASCII: put into a lent room, where each function answers the place behind what it put, and read.
 ghost use mathlib.Core.Path.{_≡_};
+ghost use mathlib.Core.Bool.{true};
 ghost use mathlib.Core.List.{_∷_, [], _++_};
 ghost use Prim.Native.Nat.{_+_, _≤_};
 ghost use lib.ListN.{length};
-ghost use Rattle.text.specs.Decimal.{digitsOf, decimal};
+ghost use Rattle.text.specs.Decimal.{digitsOf, decimal, isDigit, allDigits, read};
 ghost use Rattle.text.specs.Put.{Put};
-use whole::sign::size;
 use crate::bytes::copy;
+use whole::sign::size;
 
 // The bytes of a word, from at on.
 pub fn put_word(room: &mut [u8], at: usize, word: &[u8]) -> usize
@@ -67,4 +68,41 @@ pub fn put_number(room: &mut [u8], at: usize, z: i64, behind: u8) -> usize
     let end = put_decimal(room, at, z);
     room[end] = behind;
     end + 1
+}
+
+fn is_digit(b: u8) -> bool
+    ensures { λ r. ⌜ r ≡ isDigit b ⌝ }
+{
+    if b < 48 {
+        return false;
+    }
+    b <= 57
+}
+
+// Whether every byte is a digit.
+pub fn all_digits(s: &[u8]) -> bool
+    ensures { λ r. ⌜ r ≡ allDigits (now (s .entry)) ⌝ }
+{
+    let mut i: usize = 0;
+    while i < s.len() {
+        if !is_digit(s[i]) {
+            return false;
+        }
+        i += 1;
+    }
+    true
+}
+
+// The number that digits say. Of 19 every one fits.
+pub fn read_natural(s: &[u8]) -> u64
+    requires { ⌜ (allDigits (now s) ≡ true) × (length (now s) ≤ 19) ⌝ }
+    ensures { λ r. ⌜ r ≡ read (now (s .entry)) ⌝ }
+{
+    let mut n: u64 = 0;
+    let mut i: usize = 0;
+    while i < s.len() {
+        n = 10 * n + (s[i] - 48) as u64;
+        i += 1;
+    }
+    n
 }

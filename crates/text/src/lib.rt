@@ -1,4 +1,5 @@
-// Bytes and text: numbers of eight bytes, bytes copied, and decimals.
+// Bytes and text: numbers of eight bytes, bytes copied, decimals written and read, and lines.
 pub mod bytes;
 pub mod decimal;
+pub mod lines;
 pub mod words;
