@@ -1,11 +1,9 @@
 -- The samples of a pass as they are taken for its track. Assumes nothing.
-use mathlib.Core.Path.{_≡_, refl, sym, ap, _∙_}
-use mathlib.Core.Bool.{cond}
+use mathlib.Core.Path.{_≡_, sym, ap, _∙_}
 use mathlib.Core.List.{List}
-use Prim.Native.Nat.{ℕ, zero, suc, _≤_}
+use Prim.Native.Nat.{ℕ, _≤_}
 use native.Mathlib.Omega.{arith}
 use borrow.Author.Tests.{leb-true, ltb-true}
-use lib.Dec.{eqb, eqb·suc-zero}
 use lib.IntN.{ℤ, pos, negsuc, natAbs}
 use lib.ListN.{length, take, drop, length-append, length-drop}
 use lib.Seq.{take-at}
@@ -14,7 +12,7 @@ use Rattle.whole.specs.declared.Number.{Number}
 use Rattle.sections.specs.File.{countOf}
 use Rattle.session.specs.Records.{passOf, passAt}
 use Rattle.whole.specs.Values.{firstValues}
-use Rattle.whole.proofs.Answers.{answer-yes, answer-refusal}
+use Rattle.whole.proofs.Answers.{given-yes, given-no, answer-yes, answer-refusal}
 use Rattle.whole.proofs.Values.{values-long}
 use Rattle.delay.specs.Calls.{samplesOf, sampleIn, samplesNumber, samplesOutcome, samplesRoom}
 use Rattle.session.proofs.Answers.{asked-there, pass-yes}
@@ -60,19 +58,15 @@ room-long s i zs e h =
 
 -- ---- what the pass's track is, by the same number
 
-by-case : (n : ℕ) (x : Outcome) (room : List ℤ) → (n ≡ 0 → ⊥) → refused n room ≡ cond (eqb n 0) x (refused n room)
-by-case zero x room h = absurd (h refl)
-by-case (suc n) x room h = rw (eqb·suc-zero n)
-
 pub refused-is : (s : List ℕ) (i : ℕ) (room : List ℤ) → (samplesNumber s i 4096 ≡ 0 → ⊥) → refused (samplesNumber s i 4096) room ≡ passOutcome s i room
 unfolding passOutcome
-refused-is s i room h = by-case (samplesNumber s i 4096) (outcome (passSamples s i) (passOf s i .tolerance) room) room h
+refused-is s i room h = sym (given-no (samplesNumber s i 4096) _ (λ n. refused n room) h)
 
 pub made-is : (s : List ℕ) (i : ℕ) (room : List ℤ)
     → samplesNumber s i 4096 ≡ 0
     → outcome (passSamples s i) (passOf s i .tolerance) room ≡ passOutcome s i room
 unfolding passOutcome
-made-is s i room e = rw e
+made-is s i room e = sym (given-yes (samplesNumber s i 4096) _ (λ n. refused n room) e)
 
 -- where nothing applies the pass is there, and its samples are few
 pub pass-is : (s : List ℕ) (i l : ℕ) → samplesNumber s i l ≡ 0 → passAt s i ≡ passOf s i

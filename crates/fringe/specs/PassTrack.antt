@@ -1,10 +1,9 @@
 -- Document 01, 'Numbers to meet', the track program: the track of a pass of a file, from its samples, with its tolerance.
 use Prim.Native.Nat.{ℕ}
-use mathlib.Core.Bool.{cond}
 use mathlib.Core.List.{List}
-use lib.Dec.{eqb}
 use lib.IntN.{ℤ}
 use Rattle.session.specs.Records.{passOf}
+use Rattle.whole.specs.Answers.{given}
 use Rattle.whole.specs.Values.{firstValues}
 use Rattle.delay.specs.Calls.{samplesOf, sampleIn, samplesNumber}
 use Rattle.track.specs.Answer.{Outcome, outcome, refused}
@@ -16,5 +15,4 @@ passSamples s i = firstValues (samplesOf (passOf s i)) (sampleIn s (passOf s i))
 -- the refusal of its samples, for which there is room for 4,096, or else what `track` answers for them, with the room after the call
 unfoldable pub passOutcome : List ℕ → ℕ → List ℤ → Outcome
 passOutcome s i room =
-    let n = samplesNumber s i 4096 in
-    cond (eqb n 0) (outcome (passSamples s i) (passOf s i .tolerance) room) (refused n room)
+    given (samplesNumber s i 4096) (outcome (passSamples s i) (passOf s i .tolerance) room) (λ n. refused n room)

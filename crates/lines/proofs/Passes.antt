@@ -10,6 +10,7 @@ use lib.IntN.{ℤ, pos}
 use lib.ListN.{length, getD, replicate, length-replicate}
 use lib.Signed.{leZ}
 use Rattle.whole.specs.Whole.{∣_∣}
+use Rattle.whole.specs.Answers.{given}
 use Rattle.whole.proofs.Each.{below-all}
 use Rattle.whole.proofs.Linear.{and-true, no-tf}
 use Rattle.whole.specs.Values.{firstValues}
@@ -45,7 +46,8 @@ neither n true true e f g = absurd (f e)
 neither n true false e f g = e
 neither n false c e f g = absurd (g e)
 
-by-number : (n : ℕ) (o : Outcome) (room : List ℤ) → (n ≡ 0 → o .answer .refusal ≡ pos 0) → cond (eqb n 0) o (refused n room) .answer .refusal ≡ pos n
+by-number : (n : ℕ) (o : Outcome) (room : List ℤ) → (n ≡ 0 → o .answer .refusal ≡ pos 0) → given n o (λ m. refused m room) .answer .refusal ≡ pos n
+unfolding given
 by-number zero o room f = f refl
 by-number (suc n) o room f = rw (eqb·suc-zero n)
 

@@ -7,6 +7,7 @@ use native.Mathlib.Omega.{arith}
 use borrow.Author.Tests.{lt-ltb}
 use lib.IntN.{ℤ, pos, _+ℤ_, natAbs}
 use lib.ListN.{length, replicate, length-replicate}
+use Rattle.whole.specs.Answers.{given}
 use Rattle.whole.specs.Each.{allBelow}
 use Rattle.whole.specs.Values.{firstValues}
 use Rattle.whole.proofs.Each.{below-all}
@@ -99,7 +100,7 @@ module _ (s : List ℕ) (o : OneStationTwice s) where
       (values-same 3 (sampleIn s (passOf s 0)) (λ (j : ℕ). pos 0) (λ j l. sample-same s (passOf s 0) j (o .first ∙ sym (o .second))))
 
   pub prints-in-whole : sessionText s ≡ inWhole
-  unfolding sessionText passTexts passText passOutcome
+  unfolding given sessionText passTexts passText passOutcome
   prints-in-whole =
       let room = replicate (4 * 2048) (pos 0) in
       let d : 2048 ≤ length room / 4 = omega (arith, length-replicate (4 * 2048) (pos 0)) in

@@ -10,6 +10,7 @@ use lib.Dec.{eqb, leb, eqb·suc-zero}
 use lib.IntN.{pos}
 use lib.Signed.{leZ}
 use Rattle.whole.specs.Whole.{∣_∣}
+use Rattle.whole.specs.Answers.{given}
 use Rattle.whole.proofs.Linear.{no-ft, no-tf}
 use Rattle.sections.specs.File.{refusalOf, countOf}
 use Rattle.session.specs.Records.{checkOf, countsIn, noCounts}
@@ -19,12 +20,14 @@ some-above : (r : ℕ) → leb 1 (suc r) ≡ true
 some-above r = le-leb 1 (suc r) (omega arith)
 
 refused-by : (s : List ℕ) (r : ℕ) → let c = cond (eqb r 0) (countsIn s) (noCounts r) in leZ (pos 1) (c .refusal) ≡ true
-    → cond (leb 1 r) (refusedLine (pos r)) (passTexts s (countOf s 3)) ≡ refusedLine (c .refusal)
+    → given r (passTexts s (countOf s 3)) (λ n. refusedLine (pos n)) ≡ refusedLine (c .refusal)
+unfolding given
 refused-by s zero e = no-ft e
-refused-by s (suc r) e = rw (eqb·suc-zero r, some-above r)
+refused-by s (suc r) e = rw (eqb·suc-zero r)
 
 passes-by : (s : List ℕ) (r : ℕ) → let c = cond (eqb r 0) (countsIn s) (noCounts r) in leZ (pos 1) (c .refusal) ≡ false
-    → cond (leb 1 r) (refusedLine (pos r)) (passTexts s (countOf s 3)) ≡ passTexts s ∣ c .passes ∣
+    → given r (passTexts s (countOf s 3)) (λ n. refusedLine (pos n)) ≡ passTexts s ∣ c .passes ∣
+unfolding given
 passes-by s zero e = ap (passTexts s) (sym (add-zero (countOf s 3)))
 passes-by s (suc r) e =
     let f : leb 1 (suc r) ≡ false = rw (eqb·suc-zero r) at e in

@@ -1,20 +1,20 @@
 -- What a pass's track leaves to be printed, and that it has room. Assumes nothing.
 use mathlib.Core.Path.{_≡_, refl, subst}
-use mathlib.Core.Bool.{Bool, true, false, cond}
+use mathlib.Core.Bool.{true, false}
 use mathlib.Core.List.{List, _++_}
 use Prim.Native.Nat.{ℕ, _*_, _/_, _≤_}
 use native.Mathlib.Omega.{arith}
-use borrow.Author.Tests.{leb-true}
-use lib.Dec.{eqb, leb}
 use lib.IntN.{ℤ, pos}
 use lib.ListN.{length, drop, replicate, length-append, length-replicate}
 use lib.Signed.{leZ}
 use Rattle.whole.specs.Whole.{posPart, negPart}
+use Rattle.whole.proofs.Answers.{given-each}
 use Rattle.session.specs.Records.{passOf}
 use Rattle.delay.specs.Calls.{samplesNumber}
 use Rattle.track.specs.Segments.{Segment, flat}
 use Rattle.track.specs.Made.{trackOf}
-use Rattle.track.specs.Answer.{Outcome, inRange, outcome, refused, written}
+use Rattle.track.specs.Answer.{Outcome, outcome, refused, written}
+use Rattle.track.proofs.Answers.{each-way}
 use Rattle.track.proofs.Runs.{flat-length}
 use Rattle.fringe.specs.PassTrack.{passSamples, passOutcome}
 use Rattle.lines.specs.Text.{refusedLine, passLine, segmentLines, outcomeText, lentOutcome}
@@ -24,10 +24,6 @@ pub record Holds (k : ℕ) (o : Outcome) : Type 0 where
   pub counted : negPart (o .answer .value) ≡ 0
   pub few : posPart (o .answer .value) ≤ k
   pub there : 4 * posPart (o .answer .value) ≤ length (o .room)
-
-either : (k : ℕ) (t : Bool) (x y : Outcome) → (t ≡ true → Holds k x) → Holds k y → Holds k (cond t x y)
-either k true x y h g = h refl
-either k false x y h g = g
 
 none : (k n : ℕ) (room : List ℤ) → Holds k (refused n room)
 none k n room = record { counted = refl; few = omega arith; there = omega arith }
@@ -41,19 +37,16 @@ some k xs room h =
     }
 
 track-holds : (s : List ℤ) (t : ℤ) (room : List ℤ) → Holds (length room / 4) (outcome s t room)
-unfolding outcome
 track-holds s t room =
-    let xs = trackOf s (posPart t) in
     let k = length room / 4 in
-    either k (inRange s t) _ _
-    (λ (_ : inRange s t ≡ true). either k (leb (length xs) k) _ _ (λ (e : leb (length xs) k ≡ true). some k xs room (leb-true (length xs) k e)) (none k 8 room))
-    (none k 2 room)
+    each-way s t room (Holds k) (λ n. none k n room) (λ h. some k (trackOf s (posPart t)) room h)
 
 pass-holds : (s : List ℕ) (i : ℕ) (room : List ℤ) → Holds (length room / 4) (passOutcome s i room)
 unfolding passOutcome
 pass-holds s i room =
+    let k = length room / 4 in
     let n = samplesNumber s i 4096 in
-    either (length room / 4) (eqb n 0) _ _ (λ (_ : eqb n 0 ≡ true). track-holds (passSamples s i) (passOf s i .tolerance) room) (none (length room / 4) n room)
+    given-each (Holds k) n _ (λ m. refused m room) (λ e. track-holds (passSamples s i) (passOf s i .tolerance) room) (none k n room)
 
 -- "It lends room for 2,048 segments, which is always enough" of the room for their lines
 pub lent-holds : (s : List ℕ) (i : ℕ) → Holds 2048 (lentOutcome s i)

@@ -2,11 +2,11 @@
 use Prim.Native.Nat.{ℕ, zero, suc, _+_, _*_}
 use mathlib.Core.Bool.{cond}
 use mathlib.Core.List.{List, [], _∷_, _++_}
-use lib.Dec.{leb}
 use lib.IntN.{ℤ, pos}
 use lib.ListN.{getD, replicate}
 use lib.Signed.{leZ}
 use Rattle.whole.specs.Whole.{posPart}
+use Rattle.whole.specs.Answers.{given}
 use Rattle.sections.specs.File.{refusalOf, countOf}
 use Rattle.track.specs.Answer.{Outcome}
 use Rattle.fringe.specs.PassTrack.{passOutcome}
@@ -56,4 +56,4 @@ passTexts s (suc m) = passTexts s m ++ passText s m
 
 -- all that the program prints for a file
 unfoldable pub sessionText : List ℕ → List ℕ
-sessionText s = cond (leb 1 (refusalOf s)) (refusedLine (pos (refusalOf s))) (passTexts s (countOf s 3))
+sessionText s = given (refusalOf s) (passTexts s (countOf s 3)) (λ n. refusedLine (pos n))

@@ -14,6 +14,12 @@ pub given-no : {A : Type 0} (n : ℕ) (right : A) (refused : ℕ → A) → (n �
 unfolding given
 given-no n right refused h = rw (ne-eqb n 0 h)
 
+-- what holds of both holds of what is given
+pub given-each : {A : Type 0} (P : A → Type 0) (n : ℕ) (right : A) (refused : ℕ → A) → (n ≡ 0 → P right) → P (refused n) → P (given n right refused)
+unfolding given
+given-each P zero right refused f g = f refl
+given-each P (suc n) right refused f g = rw (eqb·suc-zero n) g
+
 pub answer-yes : (n : ℕ) (v : ℤ) → n ≡ 0 → answerBy n v ≡ number v
 answer-yes n v h = given-yes n (number v) noNumber h
 
