@@ -1,33 +1,24 @@
 // Answers questions on the delays of a session file: tests/README.md has the format.
 use libc::STDOUT_FILENO;
+use text::decimal::decimal_text;
 use text::words::bits_at;
 use text::words::number_at;
 
-fn print(n: i64) {
-    if n < 0 {
-        io::write_all(STDOUT_FILENO, b"-");
-    }
-    io::print_decimal(STDOUT_FILENO, whole::sign::size(n));
-}
-
-fn print_next(n: i64) {
-    io::write_all(STDOUT_FILENO, b" ");
-    print(n);
-}
-
-fn end_line() {
-    io::write_all(STDOUT_FILENO, b"\n");
+// A number, and what stands behind it.
+fn print(n: i64, behind: &[u8]) {
+    let mut room = [0u8; 20];
+    let text = decimal_text(&mut room, n);
+    io::write_all(STDOUT_FILENO, text);
+    io::write_all(STDOUT_FILENO, behind);
 }
 
 fn print_line(n: i64) {
-    print(n);
-    end_line();
+    print(n, b"\n");
 }
 
-fn print_two(a: i64, b: i64) {
-    print(a);
-    print_next(b);
-    end_line();
+fn print_number(a: whole::Number) {
+    print(a.refusal, b" ");
+    print(a.value, b"\n");
 }
 
 // Each number on a line of its own.
@@ -41,12 +32,11 @@ fn print_lines(list: &[i64]) {
 
 fn answer_orientation(file: &[u8], day: i64, ms: i64) {
     let a = delay::orientation(file, day, ms);
-    print(a.refusal);
-    print_next(a.x);
-    print_next(a.y);
-    print_next(a.ut1_utc);
-    print_next(a.tick as i64);
-    end_line();
+    print(a.refusal, b" ");
+    print(a.x, b" ");
+    print(a.y, b" ");
+    print(a.ut1_utc, b" ");
+    print(a.tick as i64, b"\n");
 }
 
 fn answer_delay(file: &[u8], question: &[u8; 48]) {
@@ -55,13 +45,11 @@ fn answer_delay(file: &[u8], question: &[u8; 48]) {
     let source = number_at(question, 24);
     let day = number_at(question, 32);
     let ms = number_at(question, 40);
-    let a = delay::delay(file, station1, station2, source, day, ms);
-    print_two(a.refusal, a.value);
+    print_number(delay::delay(file, station1, station2, source, day, ms));
 }
 
 fn answer_samples(file: &[u8], pass: usize, room: &mut [i64]) {
-    let a = delay::samples(file, pass, room);
-    print_two(a.refusal, a.value);
+    print_number(delay::samples(file, pass, room));
     print_lines(room);
 }
 

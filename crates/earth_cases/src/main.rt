@@ -1,61 +1,54 @@
 // Answers questions on Earth rotation, four numbers each, one line for an answer: tests/README.md has the format.
 use libc::STDOUT_FILENO;
+use text::decimal::decimal_text;
 use text::words::bits_at;
 use text::words::number_at;
 
-fn print(n: i64) {
-    if n < 0 {
-        io::write_all(STDOUT_FILENO, b"-");
-    }
-    io::print_decimal(STDOUT_FILENO, whole::sign::size(n));
-}
-
-fn print_next(n: i64) {
-    io::write_all(STDOUT_FILENO, b" ");
-    print(n);
-}
-
-fn print_tick(t: u32) {
-    print_next(t as i64);
+// A number, and what stands behind it.
+fn print(n: i64, behind: &[u8]) {
+    let mut room = [0u8; 20];
+    let text = decimal_text(&mut room, n);
+    io::write_all(STDOUT_FILENO, text);
+    io::write_all(STDOUT_FILENO, behind);
 }
 
 fn print_arguments(a: earth::TicksAnswer) {
-    print(a.refusal);
-    print_next(a.n);
-    print_tick(a.l);
-    print_tick(a.lp);
-    print_tick(a.f);
-    print_tick(a.d);
-    print_tick(a.om);
+    print(a.refusal, b" ");
+    print(a.n, b" ");
+    print(a.l as i64, b" ");
+    print(a.lp as i64, b" ");
+    print(a.f as i64, b" ");
+    print(a.d as i64, b" ");
+    print(a.om as i64, b"\n");
 }
 
 fn print_number(a: whole::Number) {
-    print(a.refusal);
-    print_next(a.value);
+    print(a.refusal, b" ");
+    print(a.value, b"\n");
 }
 
 fn print_angle(a: earth::AngleAnswer) {
-    print(a.refusal);
-    print_next(a.e);
-    print_tick(a.tick);
+    print(a.refusal, b" ");
+    print(a.e, b" ");
+    print(a.tick as i64, b"\n");
 }
 
 fn print_epoch(a: earth::EpochAnswer) {
-    print(a.refusal);
-    print_next(a.day);
-    print_next(a.ms);
+    print(a.refusal, b" ");
+    print(a.day, b" ");
+    print(a.ms, b"\n");
 }
 
 fn print_rotation(m: [[i64; 3]; 3]) {
-    print(m[0][0]);
-    print_next(m[0][1]);
-    print_next(m[0][2]);
-    print_next(m[1][0]);
-    print_next(m[1][1]);
-    print_next(m[1][2]);
-    print_next(m[2][0]);
-    print_next(m[2][1]);
-    print_next(m[2][2]);
+    print(m[0][0], b" ");
+    print(m[0][1], b" ");
+    print(m[0][2], b" ");
+    print(m[1][0], b" ");
+    print(m[1][1], b" ");
+    print(m[1][2], b" ");
+    print(m[2][0], b" ");
+    print(m[2][1], b" ");
+    print(m[2][2], b"\n");
 }
 
 // A negative tick is read modulo 2^32.
@@ -65,14 +58,13 @@ fn tick(bits: u64) -> u32 {
 
 fn answer(what: i64, t: u32, a: i64, b: i64, c: i64) {
     match what {
-        1 => print(sine::sine(t)),
+        1 => print(sine::sine(t), b"\n"),
         2 => print_arguments(earth::arguments(a, b, c)),
         3 => print_number(earth::tide(a, b, c)),
         4 => print_angle(earth::angle_at(a, b)),
         5 => print_epoch(earth::later(a, b, c)),
         _ => print_rotation(earth::rotate(t)),
     }
-    io::write_all(STDOUT_FILENO, b"\n");
 }
 
 // Reads one question and answers it; whether there was one.

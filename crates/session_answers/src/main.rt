@@ -1,87 +1,74 @@
 // Prints what the calls on a session file answer for the file on standard input: tests/README.md has the format.
 use libc::STDOUT_FILENO;
+use text::decimal::decimal_text;
 
-fn print(n: i64) {
-    if n < 0 {
-        io::write_all(STDOUT_FILENO, b"-");
-    }
-    io::print_decimal(STDOUT_FILENO, whole::sign::size(n));
-}
-
-fn print_next(n: i64) {
-    io::write_all(STDOUT_FILENO, b" ");
-    print(n);
-}
-
-fn end_line() {
-    io::write_all(STDOUT_FILENO, b"\n");
+// A number, and what stands behind it.
+fn print(n: i64, behind: &[u8]) {
+    let mut room = [0u8; 20];
+    let text = decimal_text(&mut room, n);
+    io::write_all(STDOUT_FILENO, text);
+    io::write_all(STDOUT_FILENO, behind);
 }
 
 fn print_check(file: &[u8]) {
     let a = session::check(file);
-    print(a.refusal);
-    print_next(a.stations);
-    print_next(a.sources);
-    print_next(a.days);
-    print_next(a.passes);
-    end_line();
+    print(a.refusal, b" ");
+    print(a.stations, b" ");
+    print(a.sources, b" ");
+    print(a.days, b" ");
+    print(a.passes, b"\n");
 }
 
 fn print_fault(file: &[u8]) {
     let a = session::fault(file);
-    print(a.number);
-    print_next(a.section);
-    print_next(a.record);
-    print_next(a.field);
-    end_line();
+    print(a.number, b" ");
+    print(a.section, b" ");
+    print(a.record, b" ");
+    print(a.field, b"\n");
 }
 
 // Each of the next four prints one answer, and says whether it was a record.
 fn print_station(file: &[u8], index: usize) -> bool {
     let a = session::station_at(file, index);
-    print(a.refusal);
-    print_next(a.id);
-    print_next(a.x);
-    print_next(a.y);
-    print_next(a.z);
-    end_line();
+    print(a.refusal, b" ");
+    print(a.id, b" ");
+    print(a.x, b" ");
+    print(a.y, b" ");
+    print(a.z, b"\n");
     a.refusal == 0
 }
 
 fn print_source(file: &[u8], index: usize) -> bool {
     let a = session::source_at(file, index);
-    print(a.refusal);
-    print_next(a.id);
-    print_next(a.right_ascension);
-    print_next(a.declination);
-    end_line();
+    print(a.refusal, b" ");
+    print(a.id, b" ");
+    print(a.right_ascension, b" ");
+    print(a.declination, b"\n");
     a.refusal == 0
 }
 
 fn print_day(file: &[u8], index: usize) -> bool {
     let a = session::day_at(file, index);
-    print(a.refusal);
-    print_next(a.mjd);
-    print_next(a.x);
-    print_next(a.y);
-    print_next(a.ut1_utc);
-    print_next(a.tai_utc);
-    end_line();
+    print(a.refusal, b" ");
+    print(a.mjd, b" ");
+    print(a.x, b" ");
+    print(a.y, b" ");
+    print(a.ut1_utc, b" ");
+    print(a.tai_utc, b"\n");
     a.refusal == 0
 }
 
 fn print_pass(file: &[u8], index: usize) -> bool {
     let a = session::pass_at(file, index);
-    print(a.refusal);
-    print_next(a.station1);
-    print_next(a.station2);
-    print_next(a.source);
-    print_next(a.mjd);
-    print_next(a.ms);
-    print_next(a.step);
-    print_next(a.samples);
-    print_next(a.tolerance);
-    end_line();
+    print(a.refusal, b" ");
+    print(a.station1, b" ");
+    print(a.station2, b" ");
+    print(a.source, b" ");
+    print(a.mjd, b" ");
+    print(a.ms, b" ");
+    print(a.step, b" ");
+    print(a.samples, b" ");
+    print(a.tolerance, b"\n");
     a.refusal == 0
 }
 

@@ -1,11 +1,11 @@
 // Session files, each behind its length: the answers of `check` and `fault`, and records 0 and 63 of each section. Then the writer.
-use whole::sign::size;
+use text::decimal::decimal_text;
+use text::words::bits_at;
 
 fn show(n: i64) {
-    if n < 0 {
-        io::write_all(1, b"-");
-    }
-    io::print_decimal(1, size(n));
+    let mut room = [0u8; 20];
+    let text = decimal_text(&mut room, n);
+    io::write_all(1, text);
     io::write_all(1, b" ");
 }
 
@@ -78,7 +78,7 @@ fn show_files(s: &[u8]) {
         if s.len() - at < 8 {
             return;
         }
-        let n = text::words::bits_at(s, at) as usize;
+        let n = bits_at(s, at) as usize;
         let from = at + 8;
         if s.len() - from < n {
             return;

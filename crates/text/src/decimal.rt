@@ -60,6 +60,15 @@ pub fn put_decimal(room: &mut [u8], at: usize, z: i64) -> usize
     put_natural(room, at, size(z))
 }
 
+// z in decimal, handed out as the start of a lent room.
+pub fn decimal_text(room: &mut [u8], z: i64) -> &mut [u8]
+    requires { ⌜ 20 ≤ length (now room) ⌝ }
+    ensures { λ r. ⌜ now r ≡ decimal z ⌝ }
+{
+    let end = put_decimal(room, 0, z);
+    &mut room[..end]
+}
+
 // z in decimal and a byte behind it, from at on.
 pub fn put_number(room: &mut [u8], at: usize, z: i64, behind: u8) -> usize
     requires { ⌜ at + 21 ≤ length (now room) ⌝ }

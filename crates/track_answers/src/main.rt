@@ -1,20 +1,20 @@
 // Answers questions on tracks and predictions: tests/README.md has the format.
 use libc::STDOUT_FILENO;
+use text::decimal::decimal_text;
 use text::words::bits_at;
 use text::words::number_at;
 
-fn print(n: i64) {
-    if n < 0 {
-        io::write_all(STDOUT_FILENO, b"-");
-    }
-    io::print_decimal(STDOUT_FILENO, whole::sign::size(n));
+// A number, and what stands behind it.
+fn print(n: i64, behind: &[u8]) {
+    let mut room = [0u8; 20];
+    let text = decimal_text(&mut room, n);
+    io::write_all(STDOUT_FILENO, text);
+    io::write_all(STDOUT_FILENO, behind);
 }
 
-fn print_two(a: i64, b: i64) {
-    print(a);
-    io::write_all(STDOUT_FILENO, b" ");
-    print(b);
-    io::write_all(STDOUT_FILENO, b"\n");
+fn print_number(a: whole::Number) {
+    print(a.refusal, b" ");
+    print(a.value, b"\n");
 }
 
 fn length(bits: u64) -> usize {
@@ -39,7 +39,7 @@ fn print_spaced(i: usize, n: i64) {
     if i > 0 {
         io::write_all(STDOUT_FILENO, b" ");
     }
-    print(n);
+    print(n, b"");
 }
 
 fn print_numbers(list: &[i64]) {
@@ -52,8 +52,7 @@ fn print_numbers(list: &[i64]) {
 }
 
 fn answer_track(samples: &[i64], tolerance: i64, room: &mut [i64]) {
-    let r = track::track(samples, tolerance, room);
-    print_two(r.refusal, r.value);
+    print_number(track::track(samples, tolerance, room));
     print_numbers(room);
 }
 
@@ -76,23 +75,21 @@ fn bits(x: f64) -> u64 {
     0
 }
 
-fn print_bits(x: f64) {
-    io::write_all(STDOUT_FILENO, b" ");
+fn print_bits(x: f64, behind: &[u8]) {
     io::print_decimal(STDOUT_FILENO, bits(x));
+    io::write_all(STDOUT_FILENO, behind);
 }
 
 fn answer_host(lent: &[i64], sample: u64) {
     let h = predict::host_at(lent, sample);
     let r = h.record;
-    print(h.refusal);
-    print_bits(r.seconds);
-    print_bits(r.cycles);
-    io::write_all(STDOUT_FILENO, b"\n");
+    print(h.refusal, b" ");
+    print_bits(r.seconds, b" ");
+    print_bits(r.cycles, b"\n");
 }
 
 fn answer_predict(lent: &[i64], sample: u64) {
-    let r = predict::predict(lent, sample);
-    print_two(r.refusal, r.value);
+    print_number(predict::predict(lent, sample));
 }
 
 fn answer(head: &[u8; 32], list: &mut [i64]) {

@@ -1,14 +1,13 @@
 // Every track case that document 01 lists, with room exactly enough, one segment short, and a ragged tail of one to three numbers that stays; and what the
 // tracks predict. A line is the refusal, the value, and the room after the call, which was lent full of 7s.
 ghost use Prim.Native.Nat.{_≤_};
-use whole::sign::size;
+use text::decimal::decimal_text;
 
 fn print(n: i64) {
+    let mut room = [0u8; 20];
+    let text = decimal_text(&mut room, n);
     io::write_all(1, b" ");
-    if n < 0 {
-        io::write_all(1, b"-");
-    }
-    io::print_decimal(1, size(n));
+    io::write_all(1, text);
 }
 
 fn print_all(numbers: &[i64]) {

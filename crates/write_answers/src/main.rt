@@ -1,24 +1,19 @@
 // Writes a session file from lists of numbers, and prints the answer and the room: tests/README.md has the format.
 use libc::STDOUT_FILENO;
+use text::decimal::decimal_text;
 use text::words::bits_at;
 use text::words::number_at;
 
-fn print(n: i64) {
-    if n < 0 {
-        io::write_all(STDOUT_FILENO, b"-");
-    }
-    io::print_decimal(STDOUT_FILENO, whole::sign::size(n));
+// A number, and what stands behind it.
+fn print(n: i64, behind: &[u8]) {
+    let mut room = [0u8; 20];
+    let text = decimal_text(&mut room, n);
+    io::write_all(STDOUT_FILENO, text);
+    io::write_all(STDOUT_FILENO, behind);
 }
 
 fn end_line() {
     io::write_all(STDOUT_FILENO, b"\n");
-}
-
-fn print_two(a: i64, b: i64) {
-    print(a);
-    io::write_all(STDOUT_FILENO, b" ");
-    print(b);
-    end_line();
 }
 
 fn wide(b: u8) -> u64 {
@@ -64,7 +59,8 @@ fn read_numbers(list: &mut [i64]) {
 
 fn write_lists(stations: &[i64], sources: &[i64], days: &[i64], passes: &[i64], room: &mut [u8]) {
     let a = writer::write(stations, sources, days, passes, room);
-    print_two(a.refusal, a.value);
+    print(a.refusal, b" ");
+    print(a.value, b"\n");
     print_room(room);
 }
 
