@@ -6,6 +6,7 @@ use native.Mathlib.Omega.{arith}
 use borrow.Author.Tests.{le-leb}
 use lib.IntN.{ℤ, pos, negsuc, negℤ, _-ℤ_}
 use Rattle.whole.specs.Whole.{floorZ}
+use Rattle.fields.specs.Ranges.{mjd}
 use Rattle.whole.specs.Answers.{given}
 use Rattle.whole.specs.Cases.{Hold}
 use Rattle.whole.proofs.Quote.{#, _⊕_, _⊝_, _⊗_, by≡, by≤, by<, of≤, of<}
@@ -51,7 +52,7 @@ unfolding n-at minutesOf
 n-after = refl
 
 -- the first day of the file's range: 10,227 days and a half before J2000, less the minute begun by 32.184 s of TT
-pub n-first-day : minutesOf (epochOf (pos 41317) (pos 0)) (pos 0) ≡ negℤ (pos 14727600)
+pub n-first-day : minutesOf (epochOf (mjd .low) (pos 0)) (pos 0) ≡ negℤ (pos 14727600)
 unfolding minutesOf
 n-first-day = refl
 

@@ -3,6 +3,7 @@ use mathlib.Core.Path.{_≡_, ap, _∙_}
 use Prim.Native.Nat.{ℕ, _+_, _*_, _≤_}
 use native.Mathlib.Omega.{arith}
 use lib.IntN.{ℤ, pos, negℤ, _+ℤ_, _-ℤ_}
+use Rattle.fields.specs.Ranges.{mjd}
 use Rattle.whole.specs.Ranges.{In}
 use Rattle.whole.proofs.Linear.{back}
 use Rattle.whole.proofs.Quote.{#, ev, by≡, by≤, of≡}
@@ -15,7 +16,7 @@ use Rattle.earth.proofs.turn.turn_of.Tie as tie
 
 -- the day from which the code counts, E there, and how many turns that is ahead of the rule's sum
 abbrev first : ℤ
-first = pos 41317
+first = mjd .low
 
 abbrev start : ℕ
 start = 27683252762116830

@@ -4,10 +4,12 @@ use mathlib.Core.Bool.{Bool, true, false, _&&_}
 use borrow.Author.Needs.{needs}
 use borrow.Author.Tests.{lt-leb, le-leb, not-true, not-false}
 use mathlib.Core.List.{List}
+use Prim.Native.Nat.{ℕ}
 use lib.Dec.{leb}
 use lib.IntN.{ℤ}
 use lib.ListN.{length}
-use Rattle.fields.specs.Ranges.{inside, tolerance}
+use Rattle.fields.specs.Ranges.{inside, samples, tolerance}
+use Rattle.whole.specs.Whole.{posPart}
 use Rattle.whole.proofs.Linear.{back}
 use Rattle.whole.specs.Each.{allBelow}
 use Rattle.track.specs.Answer.{smallAt, inRange}
@@ -30,22 +32,28 @@ module _ (a b c d : Bool) where
   at-d p q r = cc
 
 -- the tests of a call
-module _ (s : List ℤ) (t : ℤ) where
-  short : leb 1 (length s) ≡ false → false ≡ inRange s t
-  unfolding inRange
-  short h = at-a (leb 1 (length s)) (leb (length s) 4096) (inside tolerance t) (allBelow (length s) (smallAt s)) h
+abbrev fewest : ℕ
+fewest = posPart (samples .low)
 
-  long : leb (length s) 4096 ≡ false → false ≡ inRange s t
+abbrev most : ℕ
+most = posPart (samples .high)
+
+module _ (s : List ℤ) (t : ℤ) where
+  short : leb fewest (length s) ≡ false → false ≡ inRange s t
   unfolding inRange
-  long h = at-b (leb 1 (length s)) (leb (length s) 4096) (inside tolerance t) (allBelow (length s) (smallAt s)) h
+  short h = at-a (leb fewest (length s)) (leb (length s) most) (inside tolerance t) (allBelow (length s) (smallAt s)) h
+
+  long : leb (length s) most ≡ false → false ≡ inRange s t
+  unfolding inRange
+  long h = at-b (leb fewest (length s)) (leb (length s) most) (inside tolerance t) (allBelow (length s) (smallAt s)) h
 
   beyond : inside tolerance t ≡ false → false ≡ inRange s t
   unfolding inRange
-  beyond h = at-c (leb 1 (length s)) (leb (length s) 4096) (inside tolerance t) (allBelow (length s) (smallAt s)) h
+  beyond h = at-c (leb fewest (length s)) (leb (length s) most) (inside tolerance t) (allBelow (length s) (smallAt s)) h
 
-  rest : leb 1 (length s) ≡ true → leb (length s) 4096 ≡ true → inside tolerance t ≡ true → allBelow (length s) (smallAt s) ≡ inRange s t
+  rest : leb fewest (length s) ≡ true → leb (length s) most ≡ true → inside tolerance t ≡ true → allBelow (length s) (smallAt s) ≡ inRange s t
   unfolding inRange
-  rest h k l = at-d (leb 1 (length s)) (leb (length s) 4096) (inside tolerance t) (allBelow (length s) (smallAt s)) h k l
+  rest h k l = at-d (leb fewest (length s)) (leb (length s) most) (inside tolerance t) (allBelow (length s) (smallAt s)) h k l
 
 says : (c : tie.After-inside) → c .inside .result ≡ inside tolerance (c .before .before .before .args .tolerance)
 says c = simp (back (c .before .before .before .fits .tolerance)) at (c .inside .ensures)

@@ -3,6 +3,7 @@ use mathlib.Core.Path.{_≡_, sym, ap, _∙_}
 use native.Mathlib.Omega.{arith}
 use lib.IntN.{ℤ, pos, negℤ, _+ℤ_, _-ℤ_, _*ℤ_}
 use lib.Signed.{_≤ℤ_}
+use Rattle.fields.specs.Ranges.{mjd}
 use Rattle.whole.specs.Whole.{floorZ}
 use Rattle.whole.proofs.Quote.{⟨_⟩, #, _⊕_, _⊝_, _⊗_, ⊖, by≡, by≤}
 use Rattle.whole.proofs.Machine.{M, lit, _⊞_, _⊟_, _⊠_, _⊘_, val, ok, ok÷, is}
@@ -14,7 +15,7 @@ use Rattle.earth.proofs.time.Epoch.minutes.Tie as tie
 -- the code's expressions, and that the dividend is not negative
 module _ (s : tie.Start) where
   abbrev days : M
-  days = leaf (s .args .self .day) (s .pre .0) ⊟ lit (pos 41317)
+  days = leaf (s .args .self .day) (s .pre .0) ⊟ lit (mjd .low)
 
   abbrev utc : M
   utc = days ⊠ lit (pos 86400000) ⊞ leaf (s .args .self .ms) (s .pre .1)
