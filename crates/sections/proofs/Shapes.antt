@@ -7,7 +7,7 @@ use lib.ListN.{length, getD}
 use lib.Dec.{eqb, leb, ltb}
 use native.Mathlib.Omega.{arith}
 use borrow.Author.Tests.{eq-eqb, ne-eqb, eqb-true, leb-true}
-use Rattle.sections.specs.Layouts.{Layout, Table, places, station, source, orientation, pass, noLayout, ofKind, anyOfKind, layoutsIn, layoutIn, standsIn}
+use Rattle.sections.specs.Layouts.{Layout, Table, places, noLayout, ofKind, anyOfKind, layoutsIn, layoutIn, standsIn}
 use Rattle.whole.proofs.Linear.{and-true, no-ft}
 
 -- ---- a test of each layout, of a place's list and of a table
@@ -65,7 +65,7 @@ pub record Good (t : Table) : Type 0 where
 
 -- today's is one
 pub today : Good places
-unfolding places station source orientation pass small some
+unfolding places small some
 today = record { all-small = refl; all-some = refl }
 
 module _ {t : Table} (g : Good t) (p k : ℕ) where

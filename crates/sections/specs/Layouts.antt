@@ -29,19 +29,19 @@ pub record Layout : Type 0 where
 -- ---- the kinds
 
 -- "id, X, Y, Z"
-unfoldable pub station : Layout
+abbrev pub station : Layout
 station = record { kind = 1; fields = idNumber ∷ coordinate ∷ coordinate ∷ coordinate ∷ []; fewest = 1; most = 64; order = rising }
 
 -- "id, right ascension, declination"
-unfoldable pub source : Layout
+abbrev pub source : Layout
 source = record { kind = 2; fields = idNumber ∷ rightAscension ∷ declination ∷ []; fewest = 1; most = 256; order = rising }
 
 -- "MJD, x, y, UT1-UTC, TAI-UTC"
-unfoldable pub orientation : Layout
+abbrev pub orientation : Layout
 orientation = record { kind = 3; fields = mjd ∷ pole ∷ pole ∷ ut1utc ∷ taiutc ∷ []; fewest = 2; most = 64; order = consecutive }
 
 -- "station 1, station 2, source, MJD, u, step ms, samples, tolerance ps"
-unfoldable pub pass : Layout
+abbrev pub pass : Layout
 pass = record { kind = 4; fields = idNumber ∷ idNumber ∷ idNumber ∷ mjd ∷ millisecond ∷ step ∷ samples ∷ tolerance ∷ []; fewest = 1; most = 64; order = free }
 
 -- what may stand in each place of a file

@@ -3,10 +3,10 @@ use mathlib.Core.Path.{_≡_}
 use Prim.Native.Nat.{ℕ}
 use mathlib.Core.List.{List}
 use Rattle.session.specs.declared.Counts.{Counts}
-use Rattle.session.specs.declared.Station.{Station}
-use Rattle.session.specs.declared.Source.{Source}
-use Rattle.session.specs.declared.Day.{Day}
-use Rattle.session.specs.declared.Pass.{Pass}
+use Rattle.session.specs.declared.StationAnswer.{StationAnswer}
+use Rattle.session.specs.declared.SourceAnswer.{SourceAnswer}
+use Rattle.session.specs.declared.DayAnswer.{DayAnswer}
+use Rattle.session.specs.declared.PassAnswer.{PassAnswer}
 use Rattle.session.specs.declared.Place.{Place}
 use Rattle.session.specs.Promises.{CheckPromise, FaultPromise, StationPromise, SourcePromise, DayPromise, PassPromise}
 use Rattle.session.proofs.Answers.{one-value}
@@ -19,14 +19,14 @@ module _ (file : List ℕ) where
   fault-one r s = one-value
 
   module _ (index : ℕ) where
-    pub station-one : (r s : Station) → StationPromise file index r → StationPromise file index s → r ≡ s
+    pub station-one : (r s : StationAnswer) → StationPromise file index r → StationPromise file index s → r ≡ s
     station-one r s = one-value
 
-    pub source-one : (r s : Source) → SourcePromise file index r → SourcePromise file index s → r ≡ s
+    pub source-one : (r s : SourceAnswer) → SourcePromise file index r → SourcePromise file index s → r ≡ s
     source-one r s = one-value
 
-    pub day-one : (r s : Day) → DayPromise file index r → DayPromise file index s → r ≡ s
+    pub day-one : (r s : DayAnswer) → DayPromise file index r → DayPromise file index s → r ≡ s
     day-one r s = one-value
 
-    pub pass-one : (r s : Pass) → PassPromise file index r → PassPromise file index s → r ≡ s
+    pub pass-one : (r s : PassAnswer) → PassPromise file index r → PassPromise file index s → r ≡ s
     pass-one r s = one-value

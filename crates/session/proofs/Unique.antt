@@ -1,14 +1,18 @@
 -- At most one station, one source and one day's record has an id or an MJD. Assumes nothing.
-use mathlib.Core.Path.{_≡_, sym, _∙_}
+use mathlib.Core.Path.{_≡_, refl, sym}
 use Prim.Native.Nat.{ℕ, suc, _+_, _-_, _<_}
 use native.Mathlib.Omega.{arith}
 use native.Mathlib.Decide.{decLt}
+use mathlib.Core.Bool.{true}
 use mathlib.Core.List.{List}
-use lib.IntN.{ℤ, pos, _+ℤ_}
+use lib.IntN.{ℤ}
 use Rattle.whole.specs.Whole.{posPart, negPart}
-use Rattle.whole.proofs.Linear.{add-law, eq⇒}
+use Rattle.whole.proofs.Linear.{eq⇒}
+use Rattle.sections.specs.Layouts.{places, layoutsIn}
 use Rattle.sections.specs.File.{refusalOf, countOf, fieldAt}
-use Rattle.session.proofs.Laws.{station-ids, source-ids, day-plus}
+use Rattle.sections.proofs.Shapes.{allOf}
+use Rattle.session.proofs.Fields.{hasAnOrder}
+use Rattle.session.proofs.Laws.{first-rises}
 
 -- numbers that rise
 module _ (f : ℕ → ℤ) (n : ℕ) (rise : (i d : ℕ) → i + suc d < n → posPart (f i) + negPart (f (i + suc d)) < posPart (f (i + suc d)) + negPart (f i)) where
@@ -24,13 +28,17 @@ module _ (f : ℕ → ℤ) (n : ℕ) (rise : (i d : ℕ) → i + suc d < n → p
   once i j l m e (no a) (no b) = omega arith
 
 module _ (s : List ℕ) (h : refusalOf s ≡ 0) (i j : ℕ) where
-  pub station-once : i < countOf s 0 → j < countOf s 0 → fieldAt s 0 i 0 ≡ fieldAt s 0 j 0 → i ≡ j
-  station-once l m e = once (λ (k : ℕ). fieldAt s 0 k 0) (countOf s 0) (station-ids s h) i j l m e (decLt i j) (decLt j i)
+  record-once : (p : ℕ) → p < 4 → allOf hasAnOrder (layoutsIn places p) ≡ true → i < countOf s p → j < countOf s p → fieldAt places s p i 0 ≡ fieldAt places s p j 0 → i ≡ j
+  record-once p a o l m e = once (λ (k : ℕ). fieldAt places s p k 0) (countOf s p) (first-rises s h p a o) i j l m e (decLt i j) (decLt j i)
 
-  pub source-once : i < countOf s 1 → j < countOf s 1 → fieldAt s 1 i 0 ≡ fieldAt s 1 j 0 → i ≡ j
-  source-once l m e = once (λ (k : ℕ). fieldAt s 1 k 0) (countOf s 1) (source-ids s h) i j l m e (decLt i j) (decLt j i)
+  pub station-once : i < countOf s 0 → j < countOf s 0 → fieldAt places s 0 i 0 ≡ fieldAt places s 0 j 0 → i ≡ j
+  unfolding places
+  station-once = record-once 0 (omega arith) refl
 
-  pub day-once : i < countOf s 2 → j < countOf s 2 → fieldAt s 2 i 0 ≡ fieldAt s 2 j 0 → i ≡ j
-  day-once l m e =
-      let a = eq⇒ (fieldAt s 2 0 0 +ℤ pos i) (fieldAt s 2 0 0 +ℤ pos j) (sym (day-plus s h i l) ∙ e ∙ day-plus s h j m) in
-      omega (arith, a, add-law (fieldAt s 2 0 0) (pos i), add-law (fieldAt s 2 0 0) (pos j))
+  pub source-once : i < countOf s 1 → j < countOf s 1 → fieldAt places s 1 i 0 ≡ fieldAt places s 1 j 0 → i ≡ j
+  unfolding places
+  source-once = record-once 1 (omega arith) refl
+
+  pub day-once : i < countOf s 2 → j < countOf s 2 → fieldAt places s 2 i 0 ≡ fieldAt places s 2 j 0 → i ≡ j
+  unfolding places
+  day-once = record-once 2 (omega arith) refl

@@ -1,16 +1,26 @@
--- The answers of the calls that read a session file. Document 01, 'Session file' and 'Refusal numbers' 1 to 5.
+-- The records of a session file and the answers of the calls that read it. Document 01, 'Session file' and 'Refusal numbers' 1 to 5.
 use Prim.Native.Nat.{ℕ}
 use mathlib.Core.Bool.{not, cond}
-use mathlib.Core.List.{List}
+use mathlib.Core.List.{List, [], _∷_}
 use lib.IntN.{ℤ, pos}
+use lib.ListN.{replicate}
 use lib.Dec.{ltb, eqb}
 use Rattle.whole.specs.Each.{firstNot}
+use Rattle.whole.specs.Refusals.{unless, lowest}
+use Rattle.fields.specs.declared.Station.{Station}
+use Rattle.fields.specs.declared.Source.{Source}
+use Rattle.fields.specs.declared.Day.{Day}
+use Rattle.fields.specs.declared.Pass.{Pass}
+use Rattle.fields.specs.Records.{stationFrom, sourceFrom, dayFrom, passFrom}
+use Rattle.sections.specs.Layouts.{places}
 use Rattle.sections.specs.File.{refusalOf, countOf, fieldAt, eqZ}
+use Rattle.sections.specs.Rows.{rowOf}
 use Rattle.session.specs.declared.Counts.{Counts}
-use Rattle.session.specs.declared.Station.{Station}
-use Rattle.session.specs.declared.Source.{Source}
-use Rattle.session.specs.declared.Day.{Day}
-use Rattle.session.specs.declared.Pass.{Pass}
+use Rattle.session.specs.declared.StationAnswer.{StationAnswer}
+use Rattle.session.specs.declared.SourceAnswer.{SourceAnswer}
+use Rattle.session.specs.declared.DayAnswer.{DayAnswer}
+use Rattle.session.specs.declared.PassAnswer.{PassAnswer}
+use Rattle.session.specs.declared.records.Asked.{Asked}
 
 -- ---- check: the refusal and zeros, or 0 and the four counts
 
@@ -26,73 +36,73 @@ checkOf s = cond (eqb (refusalOf s) 0) (countsIn s) (noCounts (refusalOf s))
 -- ---- the records of a file that is accepted, by their place in their section
 
 unfoldable pub stationOf : List ℕ → ℕ → Station
-stationOf s i = record { refusal = pos 0; id = fieldAt s 0 i 0; x = fieldAt s 0 i 1; y = fieldAt s 0 i 2; z = fieldAt s 0 i 3 }
+stationOf s i = stationFrom (rowOf places s 0 i)
 
 unfoldable pub sourceOf : List ℕ → ℕ → Source
-sourceOf s i = record { refusal = pos 0; id = fieldAt s 1 i 0; «right_ascension» = fieldAt s 1 i 1; declination = fieldAt s 1 i 2 }
+sourceOf s i = sourceFrom (rowOf places s 1 i)
 
 unfoldable pub dayOf : List ℕ → ℕ → Day
-dayOf s i =
-    record { refusal = pos 0; mjd = fieldAt s 2 i 0; x = fieldAt s 2 i 1; y = fieldAt s 2 i 2; «ut1_utc» = fieldAt s 2 i 3; «tai_utc» = fieldAt s 2 i 4 }
+dayOf s i = dayFrom (rowOf places s 2 i)
 
 unfoldable pub passOf : List ℕ → ℕ → Pass
-passOf s i =
-    record {
-      refusal = pos 0;
-      station1 = fieldAt s 3 i 0;
-      station2 = fieldAt s 3 i 1;
-      source = fieldAt s 3 i 2;
-      mjd = fieldAt s 3 i 3;
-      ms = fieldAt s 3 i 4;
-      step = fieldAt s 3 i 5;
-      samples = fieldAt s 3 i 6;
-      tolerance = fieldAt s 3 i 7;
-    }
+passOf s i = passFrom (rowOf places s 3 i)
 
--- a refusal and zeros
-abbrev pub noStation : ℕ → Station
-noStation n = record { refusal = pos n; id = pos 0; x = pos 0; y = pos 0; z = pos 0 }
-
-abbrev pub noSource : ℕ → Source
-noSource n = record { refusal = pos n; id = pos 0; «right_ascension» = pos 0; declination = pos 0 }
-
-abbrev pub noDay : ℕ → Day
-noDay n = record { refusal = pos n; mjd = pos 0; x = pos 0; y = pos 0; «ut1_utc» = pos 0; «tai_utc» = pos 0 }
-
-abbrev pub noPass : ℕ → Pass
-noPass n =
-    record { refusal = pos n; station1 = pos 0; station2 = pos 0; source = pos 0; mjd = pos 0; ms = pos 0; step = pos 0; samples = pos 0; tolerance = pos 0 }
-
--- ---- a record asked for by its place: the file's own refusal first, then 5 beyond the last
-
-unfoldable pub askedOf : List ℕ → ℕ → ℕ → ℕ
-askedOf s p i = cond (eqb (refusalOf s) 0) (cond (ltb i (countOf s p)) 0 5) (refusalOf s)
-
-unfoldable pub stationAt : List ℕ → ℕ → Station
-stationAt s i = cond (eqb (askedOf s 0 i) 0) (stationOf s i) (noStation (askedOf s 0 i))
-
-unfoldable pub sourceAt : List ℕ → ℕ → Source
-sourceAt s i = cond (eqb (askedOf s 1 i) 0) (sourceOf s i) (noSource (askedOf s 1 i))
-
-unfoldable pub dayAt : List ℕ → ℕ → Day
-dayAt s i = cond (eqb (askedOf s 2 i) 0) (dayOf s i) (noDay (askedOf s 2 i))
-
-unfoldable pub passAt : List ℕ → ℕ → Pass
-passAt s i = cond (eqb (askedOf s 3 i) 0) (passOf s i) (noPass (askedOf s 3 i))
-
--- ---- a record looked for by its first field, in a file that is accepted
+-- ---- looked for by their first field
 
 -- the first record of place p that has this id, or this MJD; the number of records where none has
 unfoldable pub placeBy : List ℕ → ℕ → ℤ → ℕ
-placeBy s p z = firstNot (countOf s p) (λ (i : ℕ). not (eqZ (fieldAt s p i 0) z))
+placeBy s p z = firstNot (countOf s p) (λ (i : ℕ). not (eqZ (fieldAt places s p i 0) z))
 
--- 5 where the station, or the source, is not there
-unfoldable pub stationBy : List ℕ → ℤ → Station
-stationBy s z = cond (ltb (placeBy s 0 z) (countOf s 0)) (stationOf s (placeBy s 0 z)) (noStation 5)
+-- that record, said only where there is one
+abbrev pub stationBy : List ℕ → ℤ → Station
+stationBy s z = stationOf s (placeBy s 0 z)
 
-unfoldable pub sourceBy : List ℕ → ℤ → Source
-sourceBy s z = cond (ltb (placeBy s 1 z) (countOf s 1)) (sourceOf s (placeBy s 1 z)) (noSource 5)
+abbrev pub sourceBy : List ℕ → ℤ → Source
+sourceBy s z = sourceOf s (placeBy s 1 z)
 
--- 6 where the day's record is not there
-unfoldable pub dayBy : List ℕ → ℤ → Day
-dayBy s z = cond (ltb (placeBy s 2 z) (countOf s 2)) (dayOf s (placeBy s 2 z)) (noDay 6)
+abbrev pub dayBy : List ℕ → ℤ → Day
+dayBy s z = dayOf s (placeBy s 2 z)
+
+-- ---- a record asked for by its place: the refusal and zeros, or 0 and the record's fields
+
+-- the file's own number, and 5 beyond the last
+unfoldable pub askedOf : List ℕ → ℕ → ℕ → ℕ
+askedOf s p i = lowest (refusalOf s ∷ unless (ltb i (countOf s p)) 5 ∷ [])
+
+unfoldable pub askedRow : List ℕ → ℕ → ℕ → Asked
+askedRow s p i = record { refusal = pos (askedOf s p i); row = cond (eqb (askedOf s p i) 0) (rowOf places s p i) (replicate 8 (pos 0)) }
+
+abbrev pub stationAnswer : ℤ → Station → StationAnswer
+stationAnswer n r = record { refusal = n; id = r .id; x = r .x; y = r .y; z = r .z }
+
+abbrev pub sourceAnswer : ℤ → Source → SourceAnswer
+sourceAnswer n r = record { refusal = n; id = r .id; «right_ascension» = r .«right_ascension»; declination = r .declination }
+
+abbrev pub dayAnswer : ℤ → Day → DayAnswer
+dayAnswer n r = record { refusal = n; mjd = r .mjd; x = r .x; y = r .y; «ut1_utc» = r .«ut1_utc»; «tai_utc» = r .«tai_utc» }
+
+abbrev pub passAnswer : ℤ → Pass → PassAnswer
+passAnswer n r =
+    record {
+      refusal = n;
+      station1 = r .station1;
+      station2 = r .station2;
+      source = r .source;
+      mjd = r .mjd;
+      ms = r .ms;
+      step = r .step;
+      samples = r .samples;
+      tolerance = r .tolerance;
+    }
+
+unfoldable pub stationAt : List ℕ → ℕ → StationAnswer
+stationAt s i = stationAnswer (askedRow s 0 i .refusal) (stationFrom (askedRow s 0 i .row))
+
+unfoldable pub sourceAt : List ℕ → ℕ → SourceAnswer
+sourceAt s i = sourceAnswer (askedRow s 1 i .refusal) (sourceFrom (askedRow s 1 i .row))
+
+unfoldable pub dayAt : List ℕ → ℕ → DayAnswer
+dayAt s i = dayAnswer (askedRow s 2 i .refusal) (dayFrom (askedRow s 2 i .row))
+
+unfoldable pub passAt : List ℕ → ℕ → PassAnswer
+passAt s i = passAnswer (askedRow s 3 i .refusal) (passFrom (askedRow s 3 i .row))

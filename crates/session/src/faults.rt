@@ -5,6 +5,7 @@ ghost use Prim.Native.Nat.{_+_, _-_, _<_, _≤_};
 ghost use lib.IntN.{pos};
 ghost use Rattle.whole.specs.Each.{firstNot};
 ghost use Rattle.sections.specs.File.{contentsRight, countOf, sizeOf, kindOf, fieldRight, recordRight};
+ghost use Rattle.sections.specs.Layouts.{places};
 ghost use Rattle.session.specs.Fault.{rangeFault, orderFault};
 use crate::Place;
 use sections::contents::layout_of;
@@ -16,8 +17,8 @@ use whole::sign::number;
 
 // The first field of record i of place p that is out of its range, or the number of fields.
 fn wrong_field(s: &[u8], p: usize, i: usize) -> usize
-    requires { ⌜ (contentsRight (now s) ≡ true) × (p < 4) × (i < countOf (now s) p) ⌝ }
-    ensures { λ r. ⌜ (r ≡ firstNot (sizeOf (now (s .entry)) p) (fieldRight (now (s .entry)) p i)) × (r ≤ 8) ⌝ }
+    requires { ⌜ (contentsRight places (now s) ≡ true) × (p < 4) × (i < countOf (now s) p) ⌝ }
+    ensures { λ r. ⌜ (r ≡ firstNot (sizeOf places (now (s .entry)) p) (fieldRight places (now (s .entry)) p i)) × (r ≤ 8) ⌝ }
 {
     let l = layout_of(s, p);
     let size = l.size;
@@ -28,7 +29,7 @@ fn wrong_field(s: &[u8], p: usize, i: usize) -> usize
 }
 
 fn kind_number(s: &[u8], p: usize) -> i64
-    requires { ⌜ (contentsRight (now s) ≡ true) × (p < 4) ⌝ }
+    requires { ⌜ (contentsRight places (now s) ≡ true) × (p < 4) ⌝ }
     ensures { λ r. ⌜ r ≡ pos (kindOf (now (s .entry)) p) ⌝ }
 {
     number(word_at(s, 3 * p + 1))
@@ -36,7 +37,7 @@ fn kind_number(s: &[u8], p: usize) -> i64
 
 // The first field out of its range in place p, which has one.
 pub fn range_fault(s: &[u8], p: usize) -> Place
-    requires { ⌜ (contentsRight (now s) ≡ true) × (p < 4) × (firstNot (countOf (now s) p) (recordRight (now s) p) < countOf (now s) p) ⌝ }
+    requires { ⌜ (contentsRight places (now s) ≡ true) × (p < 4) × (firstNot (countOf (now s) p) (recordRight places (now s) p) < countOf (now s) p) ⌝ }
     ensures { λ r. ⌜ r ≡ rangeFault (now (s .entry)) p ⌝ }
 {
     let i = wrong_record(s, p);
@@ -51,7 +52,7 @@ pub fn range_fault(s: &[u8], p: usize) -> Place
 
 // The later record of the first pair in place p that does not keep the order o.
 pub fn order_fault(s: &[u8], p: usize, o: u64, refusal: usize) -> Place
-    requires { ⌜ (contentsRight (now s) ≡ true) × (p < 4) × (refusal < 5) ⌝ }
+    requires { ⌜ (contentsRight places (now s) ≡ true) × (p < 4) × (refusal < 5) ⌝ }
     ensures { λ r. ⌜ r ≡ orderFault (now (s .entry)) p o refusal ⌝ }
 {
     let i = wrong_step(s, o, p);

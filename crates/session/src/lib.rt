@@ -6,15 +6,11 @@ pub mod records;
 
 use faults::order_fault;
 use faults::range_fault;
-use records::asked;
-use records::day_of;
-use records::no_day;
-use records::no_pass;
-use records::no_source;
-use records::no_station;
-use records::pass_of;
-use records::source_of;
-use records::station_of;
+use fields::day_from;
+use fields::pass_from;
+use fields::source_from;
+use fields::station_from;
+use records::ask;
 use sections::contents::wrong_word;
 use sections::order::wrong_order;
 use sections::ranges::wrong_section;
@@ -32,7 +28,7 @@ pub struct Counts {
 }
 
 #[repr(C)]
-pub struct Station {
+pub struct StationAnswer {
     pub refusal: i64,
     pub id: i64,
     pub x: i64,
@@ -41,7 +37,7 @@ pub struct Station {
 }
 
 #[repr(C)]
-pub struct Source {
+pub struct SourceAnswer {
     pub refusal: i64,
     pub id: i64,
     pub right_ascension: i64,
@@ -49,7 +45,7 @@ pub struct Source {
 }
 
 #[repr(C)]
-pub struct Day {
+pub struct DayAnswer {
     pub refusal: i64,
     pub mjd: i64,
     pub x: i64,
@@ -59,7 +55,7 @@ pub struct Day {
 }
 
 #[repr(C)]
-pub struct Pass {
+pub struct PassAnswer {
     pub refusal: i64,
     pub station1: i64,
     pub station2: i64,
@@ -103,47 +99,71 @@ pub fn check(file: &[u8]) -> Counts
 }
 
 // The station with this index, counted from 0; 5 beyond the last.
-pub fn station_at(file: &[u8], index: usize) -> Station
+pub fn station_at(file: &[u8], index: usize) -> StationAnswer
     ensures { λ r. ⌜ StationPromise (now (file .entry)) index r ⌝ }
 {
-    let n = asked(file, 0, index);
-    if n == 0 {
-        return station_of(file, index);
+    let a = ask(file, 0, index);
+    let row = a.row;
+    let r = station_from(&row);
+    StationAnswer {
+        refusal: a.refusal,
+        id: r.id,
+        x: r.x,
+        y: r.y,
+        z: r.z,
     }
-    no_station(n)
 }
 
 // The source with this index, counted from 0; 5 beyond the last.
-pub fn source_at(file: &[u8], index: usize) -> Source
+pub fn source_at(file: &[u8], index: usize) -> SourceAnswer
     ensures { λ r. ⌜ SourcePromise (now (file .entry)) index r ⌝ }
 {
-    let n = asked(file, 1, index);
-    if n == 0 {
-        return source_of(file, index);
+    let a = ask(file, 1, index);
+    let row = a.row;
+    let r = source_from(&row);
+    SourceAnswer {
+        refusal: a.refusal,
+        id: r.id,
+        right_ascension: r.right_ascension,
+        declination: r.declination,
     }
-    no_source(n)
 }
 
 // The orientation record with this index, counted from 0; 5 beyond the last.
-pub fn day_at(file: &[u8], index: usize) -> Day
+pub fn day_at(file: &[u8], index: usize) -> DayAnswer
     ensures { λ r. ⌜ DayPromise (now (file .entry)) index r ⌝ }
 {
-    let n = asked(file, 2, index);
-    if n == 0 {
-        return day_of(file, index);
+    let a = ask(file, 2, index);
+    let row = a.row;
+    let r = day_from(&row);
+    DayAnswer {
+        refusal: a.refusal,
+        mjd: r.mjd,
+        x: r.x,
+        y: r.y,
+        ut1_utc: r.ut1_utc,
+        tai_utc: r.tai_utc,
     }
-    no_day(n)
 }
 
 // The pass with this index, counted from 0; 5 beyond the last.
-pub fn pass_at(file: &[u8], index: usize) -> Pass
+pub fn pass_at(file: &[u8], index: usize) -> PassAnswer
     ensures { λ r. ⌜ PassPromise (now (file .entry)) index r ⌝ }
 {
-    let n = asked(file, 3, index);
-    if n == 0 {
-        return pass_of(file, index);
+    let a = ask(file, 3, index);
+    let row = a.row;
+    let r = pass_from(&row);
+    PassAnswer {
+        refusal: a.refusal,
+        station1: r.station1,
+        station2: r.station2,
+        source: r.source,
+        mjd: r.mjd,
+        ms: r.ms,
+        step: r.step,
+        samples: r.samples,
+        tolerance: r.tolerance,
     }
-    no_pass(n)
 }
 
 // Where the number that `check` gives arises first; zeros for a file that is accepted.

@@ -1,4 +1,4 @@
-// The records of a file that is accepted: by their place in their section, and by their id or day.
+// The records of a file that is accepted: by their place in their section, and where one with an id or an MJD stands.
 ghost use mathlib.Core.Path.{_≡_};
 ghost use Prim.Native.Nat.{_+_, _*_, _<_, _≤_};
 ghost use lib.ListN.{length};
@@ -6,12 +6,17 @@ ghost use Rattle.whole.specs.Each.{firstNot};
 ghost use Rattle.text.specs.Words.{numberAt};
 ghost use Rattle.sections.specs.Code.{otherBy};
 ghost use Rattle.sections.specs.File.{refusalOf, countOf, eqZ};
-ghost use Rattle.session.specs.Records.{stationOf, sourceOf, dayOf, passOf, noStation, noSource, noDay, noPass, placeBy, stationBy, sourceBy, dayBy, askedOf};
-use crate::Day;
-use crate::Pass;
-use crate::Source;
-use crate::Station;
+ghost use Rattle.session.specs.Records.{stationOf, sourceOf, dayOf, passOf, placeBy, askedRow};
+use fields::Day;
+use fields::Pass;
+use fields::Source;
+use fields::Station;
+use fields::day_from;
+use fields::pass_from;
+use fields::source_from;
+use fields::station_from;
 use sections::contents::layout_of;
+use sections::records::record_of;
 use sections::refusal::count_of;
 use sections::refusal::field_at;
 use sections::refusal::record_byte;
@@ -24,137 +29,32 @@ pub fn station_of(s: &[u8], i: usize) -> Station
     requires { ⌜ (refusalOf (now s) ≡ 0) × (i < countOf (now s) 0) ⌝ }
     ensures { λ r. ⌜ r ≡ stationOf (now (s .entry)) i ⌝ }
 {
-    let at = record_byte(s, 0, i);
-    let id = field_at(s, at, 0);
-    let x = field_at(s, at, 1);
-    let y = field_at(s, at, 2);
-    let z = field_at(s, at, 3);
-    Station {
-        refusal: 0,
-        id: id,
-        x: x,
-        y: y,
-        z: z,
-    }
+    let row = record_of(s, 0, i);
+    station_from(&row)
 }
 
 pub fn source_of(s: &[u8], i: usize) -> Source
     requires { ⌜ (refusalOf (now s) ≡ 0) × (i < countOf (now s) 1) ⌝ }
     ensures { λ r. ⌜ r ≡ sourceOf (now (s .entry)) i ⌝ }
 {
-    let at = record_byte(s, 1, i);
-    let id = field_at(s, at, 0);
-    let right_ascension = field_at(s, at, 1);
-    let declination = field_at(s, at, 2);
-    Source {
-        refusal: 0,
-        id: id,
-        right_ascension: right_ascension,
-        declination: declination,
-    }
+    let row = record_of(s, 1, i);
+    source_from(&row)
 }
 
 pub fn day_of(s: &[u8], i: usize) -> Day
     requires { ⌜ (refusalOf (now s) ≡ 0) × (i < countOf (now s) 2) ⌝ }
     ensures { λ r. ⌜ r ≡ dayOf (now (s .entry)) i ⌝ }
 {
-    let at = record_byte(s, 2, i);
-    let mjd = field_at(s, at, 0);
-    let x = field_at(s, at, 1);
-    let y = field_at(s, at, 2);
-    let ut1_utc = field_at(s, at, 3);
-    let tai_utc = field_at(s, at, 4);
-    Day {
-        refusal: 0,
-        mjd: mjd,
-        x: x,
-        y: y,
-        ut1_utc: ut1_utc,
-        tai_utc: tai_utc,
-    }
+    let row = record_of(s, 2, i);
+    day_from(&row)
 }
 
 pub fn pass_of(s: &[u8], i: usize) -> Pass
     requires { ⌜ (refusalOf (now s) ≡ 0) × (i < countOf (now s) 3) ⌝ }
     ensures { λ r. ⌜ r ≡ passOf (now (s .entry)) i ⌝ }
 {
-    let at = record_byte(s, 3, i);
-    let station1 = field_at(s, at, 0);
-    let station2 = field_at(s, at, 1);
-    let source = field_at(s, at, 2);
-    let mjd = field_at(s, at, 3);
-    let ms = field_at(s, at, 4);
-    let step = field_at(s, at, 5);
-    let samples = field_at(s, at, 6);
-    let tolerance = field_at(s, at, 7);
-    Pass {
-        refusal: 0,
-        station1: station1,
-        station2: station2,
-        source: source,
-        mjd: mjd,
-        ms: ms,
-        step: step,
-        samples: samples,
-        tolerance: tolerance,
-    }
-}
-
-// A refusal and zeros, in place of a record.
-pub fn no_station(refusal: usize) -> Station
-    requires { ⌜ refusal ≤ 9 ⌝ }
-    ensures { λ r. ⌜ r ≡ noStation refusal ⌝ }
-{
-    Station {
-        refusal: number(refusal),
-        id: 0,
-        x: 0,
-        y: 0,
-        z: 0,
-    }
-}
-
-pub fn no_source(refusal: usize) -> Source
-    requires { ⌜ refusal ≤ 9 ⌝ }
-    ensures { λ r. ⌜ r ≡ noSource refusal ⌝ }
-{
-    Source {
-        refusal: number(refusal),
-        id: 0,
-        right_ascension: 0,
-        declination: 0,
-    }
-}
-
-pub fn no_day(refusal: usize) -> Day
-    requires { ⌜ refusal ≤ 9 ⌝ }
-    ensures { λ r. ⌜ r ≡ noDay refusal ⌝ }
-{
-    Day {
-        refusal: number(refusal),
-        mjd: 0,
-        x: 0,
-        y: 0,
-        ut1_utc: 0,
-        tai_utc: 0,
-    }
-}
-
-pub fn no_pass(refusal: usize) -> Pass
-    requires { ⌜ refusal ≤ 9 ⌝ }
-    ensures { λ r. ⌜ r ≡ noPass refusal ⌝ }
-{
-    Pass {
-        refusal: number(refusal),
-        station1: 0,
-        station2: 0,
-        source: 0,
-        mjd: 0,
-        ms: 0,
-        step: 0,
-        samples: 0,
-        tolerance: 0,
-    }
+    let row = record_of(s, 3, i);
+    pass_from(&row)
 }
 
 // Whether the number at byte at is z.
@@ -181,7 +81,7 @@ fn first_with(s: &[u8], at: usize, n: usize, size: usize, z: i64) -> usize
 }
 
 // The first record of place p whose first field is z, or the number of its records.
-fn place_by(s: &[u8], p: usize, z: i64) -> usize
+pub fn place_by(s: &[u8], p: usize, z: i64) -> usize
     requires { ⌜ (refusalOf (now s) ≡ 0) × (p < 4) ⌝ }
     ensures { λ r. ⌜ r ≡ placeBy (now (s .entry)) p z ⌝ }
 {
@@ -189,32 +89,8 @@ fn place_by(s: &[u8], p: usize, z: i64) -> usize
     first_with(s, word_at(s, 3 * p + 2), word_at(s, 3 * p + 3), l.size, z)
 }
 
-// The station of an id, or refusal 5.
-pub fn station_by(s: &[u8], id: i64) -> Station
-    requires { ⌜ refusalOf (now s) ≡ 0 ⌝ }
-    ensures { λ r. ⌜ r ≡ stationBy (now (s .entry)) id ⌝ }
-{
-    let i = place_by(s, 0, id);
-    if i < count_of(s, 0) {
-        return station_of(s, i);
-    }
-    no_station(5)
-}
-
-// The source of an id, or refusal 5.
-pub fn source_by(s: &[u8], id: i64) -> Source
-    requires { ⌜ refusalOf (now s) ≡ 0 ⌝ }
-    ensures { λ r. ⌜ r ≡ sourceBy (now (s .entry)) id ⌝ }
-{
-    let i = place_by(s, 1, id);
-    if i < count_of(s, 1) {
-        return source_of(s, i);
-    }
-    no_source(5)
-}
-
 // The record of the day with this MJD, or the number of days.
-fn day_place(s: &[u8], mjd: i64) -> usize
+pub fn day_place(s: &[u8], mjd: i64) -> usize
     requires { ⌜ refusalOf (now s) ≡ 0 ⌝ }
     ensures { λ r. ⌜ r ≡ placeBy (now (s .entry)) 2 mjd ⌝ }
 {
@@ -230,29 +106,32 @@ fn day_place(s: &[u8], mjd: i64) -> usize
     n
 }
 
-// The record of the day with this MJD, or refusal 6.
-pub fn day_by(s: &[u8], mjd: i64) -> Day
-    requires { ⌜ refusalOf (now s) ≡ 0 ⌝ }
-    ensures { λ r. ⌜ r ≡ dayBy (now (s .entry)) mjd ⌝ }
-{
-    let i = day_place(s, mjd);
-    if i < count_of(s, 2) {
-        return day_of(s, i);
-    }
-    no_day(6)
+// What is asked for: the refusal and zeros, or 0 and the numbers of a record.
+pub struct Asked {
+    pub refusal: i64,
+    pub row: [i64; 8],
 }
 
-// The file's own refusal; then 5 where place p has no record i.
-pub fn asked(s: &[u8], p: usize, i: usize) -> usize
+// Record i of place p, in any file: the file's own refusal, then 5 where place p has no such record.
+pub fn ask(s: &[u8], p: usize, i: usize) -> Asked
     requires { ⌜ p < 4 ⌝ }
-    ensures { λ r. ⌜ (r ≡ askedOf (now (s .entry)) p i) × (r ≤ 5) ⌝ }
+    ensures { λ r. ⌜ r ≡ askedRow (now (s .entry)) p i ⌝ }
 {
     let n = refusal_of(s);
     if n != 0 {
-        return n;
+        return Asked {
+            refusal: number(n),
+            row: [0; 8],
+        };
     }
     if i < count_of(s, p) {
-        return 0;
+        return Asked {
+            refusal: 0,
+            row: record_of(s, p, i),
+        };
     }
-    5
+    Asked {
+        refusal: 5,
+        row: [0; 8],
+    }
 }

@@ -11,11 +11,11 @@ ghost use Rattle.writer.specs.Promises.{WritePromise, WriteAsPromise};
 mod lists;
 pub mod theorems;
 
-use text::bytes::put_numbers;
-use text::bytes::put_words;
 use lists::contents_for;
 use lists::lists_right;
 use sections::refusal::refusal_of;
+use text::bytes::put_numbers;
+use text::bytes::put_words;
 use whole::Number;
 use whole::sign::number;
 

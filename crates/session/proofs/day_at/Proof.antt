@@ -1,29 +1,27 @@
-use mathlib.Core.Path.{sym, ap, _∙_}
-use native.Mathlib.Omega.{arith}
-use Rattle.session.specs.Records.{noDay}
-use Rattle.session.proofs.Answers.{asked-zero, day-no, day-yes}
+use mathlib.Core.Path.{ap, ap₂, _∙_}
+use Rattle.whole.proofs.Linear.{ret}
+use Rattle.fields.specs.Records.{dayFrom}
+use Rattle.session.specs.declared.records.Asked.{Asked}
+use Rattle.session.specs.Records.{dayAnswer, dayAt}
 use borrow.Author.Needs.{needs}
 use Rattle.session.proofs.day_at.Statement.{statement}
 use Rattle.session.proofs.day_at.Tie as tie
 
-asked-requires : tie.Need-asked-requires
-asked-requires c κs = search needs
+ask-requires : tie.Need-ask-requires
+ask-requires c κs = search needs
 
-day-of-requires : tie.Need-day-of-requires
-day-of-requires c κs =
-    let w = asked-zero _ _ _ (sym (c .before .asked .ensures .0) ∙ c .if1 .taken) in
-    (w .0, omega (arith, w .1))
+day-from-requires : tie.Need-day-from-requires
+day-from-requires c κs = search needs
 
 returns : tie.Need-returns
-returns c = c .day-of .ensures ∙ sym (day-yes _ _ (sym (c .before .before .asked .ensures .0) ∙ c .before .if1 .taken))
-
-no-day-requires : tie.Need-no-day-requires
-no-day-requires c κs = search needs
-
-returns-2 : tie.Need-returns-2
-returns-2 c =
-    let n = c .before .before .asked .ensures .0 in
-    c .no-day .ensures ∙ ap noDay n ∙ sym (day-no _ _ (λ e. c .before .if1 .left (n ∙ e)))
+unfolding dayAt
+returns c =
+    let a = c .before .before .before .before .before .ask in
+    let r = c .before .before .day-from in
+    let g = c .struct-told2 .given in
+    let n = ret (a .result .refusal) (c .before .struct-told .given .0 .1) in
+    (λ j. record { refusal = n j; mjd = ret (r .result .mjd) (g .0 .1) j; x = ret (r .result .x) (g .1 .0 .1) j; y = ret (r .result .y) (g .1 .1 .0 .1) j; «ut1_utc» = ret (r .result .«ut1_utc») (g .1 .1 .1 .0 .1) j; «tai_utc» = ret (r .result .«tai_utc») (g .1 .1 .1 .1 .0 .1) j })
+    ∙ ap₂ dayAnswer (ap (λ (x : Asked). x .refusal) (a .ensures)) (r .ensures ∙ ap (λ (x : Asked). dayFrom (x .row)) (a .ensures))
 
 pub day-at-spec : {M : Type 1} → statement M
-day-at-spec = tie.close (tie.spec asked-requires day-of-requires returns no-day-requires returns-2)
+day-at-spec = tie.close (tie.spec ask-requires day-from-requires returns)

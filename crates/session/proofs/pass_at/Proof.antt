@@ -1,29 +1,38 @@
-use mathlib.Core.Path.{sym, ap, _∙_}
-use native.Mathlib.Omega.{arith}
-use Rattle.session.specs.Records.{noPass}
-use Rattle.session.proofs.Answers.{asked-zero, pass-no, pass-yes}
+use mathlib.Core.Path.{ap, ap₂, _∙_}
+use Rattle.whole.proofs.Linear.{ret}
+use Rattle.fields.specs.Records.{passFrom}
+use Rattle.session.specs.declared.records.Asked.{Asked}
+use Rattle.session.specs.Records.{passAnswer, passAt}
 use borrow.Author.Needs.{needs}
 use Rattle.session.proofs.pass_at.Statement.{statement}
 use Rattle.session.proofs.pass_at.Tie as tie
 
-asked-requires : tie.Need-asked-requires
-asked-requires c κs = search needs
+ask-requires : tie.Need-ask-requires
+ask-requires c κs = search needs
 
-pass-of-requires : tie.Need-pass-of-requires
-pass-of-requires c κs =
-    let w = asked-zero _ _ _ (sym (c .before .asked .ensures .0) ∙ c .if1 .taken) in
-    (w .0, omega (arith, w .1))
+pass-from-requires : tie.Need-pass-from-requires
+pass-from-requires c κs = search needs
 
 returns : tie.Need-returns
-returns c = c .pass-of .ensures ∙ sym (pass-yes _ _ (sym (c .before .before .asked .ensures .0) ∙ c .before .if1 .taken))
-
-no-pass-requires : tie.Need-no-pass-requires
-no-pass-requires c κs = search needs
-
-returns-2 : tie.Need-returns-2
-returns-2 c =
-    let n = c .before .before .asked .ensures .0 in
-    c .no-pass .ensures ∙ ap noPass n ∙ sym (pass-no _ _ (λ e. c .before .if1 .left (n ∙ e)))
+unfolding passAt
+returns c =
+    let a = c .before .before .before .before .before .ask in
+    let r = c .before .before .pass-from in
+    let g = c .struct-told2 .given in
+    let n = ret (a .result .refusal) (c .before .struct-told .given .0 .1) in
+    (λ j.
+    record {
+      refusal = n j;
+      station1 = ret (r .result .station1) (g .0 .1) j;
+      station2 = ret (r .result .station2) (g .1 .0 .1) j;
+      source = ret (r .result .source) (g .1 .1 .0 .1) j;
+      mjd = ret (r .result .mjd) (g .1 .1 .1 .0 .1) j;
+      ms = ret (r .result .ms) (g .1 .1 .1 .1 .0 .1) j;
+      step = ret (r .result .step) (g .1 .1 .1 .1 .1 .0 .1) j;
+      samples = ret (r .result .samples) (g .1 .1 .1 .1 .1 .1 .0 .1) j;
+      tolerance = ret (r .result .tolerance) (g .1 .1 .1 .1 .1 .1 .1 .0 .1) j;
+    })
+    ∙ ap₂ passAnswer (ap (λ (x : Asked). x .refusal) (a .ensures)) (r .ensures ∙ ap (λ (x : Asked). passFrom (x .row)) (a .ensures))
 
 pub pass-at-spec : {M : Type 1} → statement M
-pass-at-spec = tie.close (tie.spec asked-requires pass-of-requires returns no-pass-requires returns-2)
+pass-at-spec = tie.close (tie.spec ask-requires pass-from-requires returns)

@@ -19,7 +19,7 @@ station-requires : tie.Need-station-requires
 station-requires c κs = search needs
 
 returns : tie.Need-returns
-unfolding places station
+unfolding places
 returns c =
     let a = c .before .before .before .args in
     gives (a .place) (a .kind) 0 station (c .before .before .if1 .taken) (kind-hit station [] (a .kind) (c .before .if2 .taken)) (c .station .ensures)
@@ -28,7 +28,7 @@ no-layout-requires : tie.Need-no-layout-requires
 no-layout-requires c κs = search needs
 
 returns-2 : tie.Need-returns-2
-unfolding places station
+unfolding places
 returns-2 c =
     let a = c .before .before .before .args in
     gives (a .place) (a .kind) 0 noLayout (c .before .before .if1 .taken) (kind-miss station [] (a .kind) (c .before .if2 .left)) (c .no-layout .ensures)
@@ -37,7 +37,7 @@ source-requires : tie.Need-source-requires
 source-requires c κs = search needs
 
 returns-3 : tie.Need-returns-3
-unfolding places source
+unfolding places
 returns-3 c =
     let a = c .before .before .before .before .args in
     gives (a .place) (a .kind) 1 source (c .before .before .if3 .taken) (kind-hit source [] (a .kind) (c .before .if4 .taken)) (c .source .ensures)
@@ -46,7 +46,7 @@ no-layout-requires-2 : tie.Need-no-layout-requires-2
 no-layout-requires-2 c κs = search needs
 
 returns-4 : tie.Need-returns-4
-unfolding places source
+unfolding places
 returns-4 c =
     let a = c .before .before .before .before .args in
     gives (a .place) (a .kind) 1 noLayout (c .before .before .if3 .taken) (kind-miss source [] (a .kind) (c .before .if4 .left)) (c .no-layout2 .ensures)
@@ -55,7 +55,7 @@ orientation-requires : tie.Need-orientation-requires
 orientation-requires c κs = search needs
 
 returns-5 : tie.Need-returns-5
-unfolding places orientation
+unfolding places
 returns-5 c =
     let a = c .before .before .before .before .before .args in
     gives (a .place) (a .kind) 2 orientation (c .before .before .if5 .taken) (kind-hit orientation [] (a .kind) (c .before .if6 .taken)) (c .orientation .ensures)
@@ -64,7 +64,7 @@ no-layout-requires-3 : tie.Need-no-layout-requires-3
 no-layout-requires-3 c κs = search needs
 
 returns-6 : tie.Need-returns-6
-unfolding places orientation
+unfolding places
 returns-6 c =
     let a = c .before .before .before .before .before .args in
     gives (a .place) (a .kind) 2 noLayout (c .before .before .if5 .taken) (kind-miss orientation [] (a .kind) (c .before .if6 .left)) (c .no-layout3 .ensures)
@@ -73,7 +73,7 @@ pass-requires : tie.Need-pass-requires
 pass-requires c κs = search needs
 
 returns-7 : tie.Need-returns-7
-unfolding places pass
+unfolding places
 returns-7 c =
     let a = c .before .before .before .before .before .args in
     gives (a .place) (a .kind) 3 pass (omega arith) (kind-hit pass [] (a .kind) (c .before .if7 .taken)) (c .pass .ensures)
@@ -82,7 +82,7 @@ no-layout-requires-4 : tie.Need-no-layout-requires-4
 no-layout-requires-4 c κs = search needs
 
 returns-8 : tie.Need-returns-8
-unfolding places pass
+unfolding places
 returns-8 c =
     let a = c .before .before .before .before .before .args in
     gives (a .place) (a .kind) 3 noLayout (omega arith) (kind-miss pass [] (a .kind) (c .before .if7 .left)) (c .no-layout4 .ensures)

@@ -3,6 +3,7 @@ use native.Mathlib.Omega.{arith}
 use Rattle.sections.specs.File.{kindOf}
 use Rattle.sections.proofs.Shapes.{kind-small}
 use Rattle.sections.proofs.Sound.{table-long, kind-stands}
+use Rattle.sections.proofs.Shapes.{today}
 use borrow.Author.Needs.{needs}
 use Rattle.session.proofs.faults.kind_number.Statement.{statement}
 use Rattle.session.proofs.faults.kind_number.Tie as tie
@@ -16,13 +17,13 @@ add-word-at c = search needs
 word-at-requires : tie.Need-word-at-requires
 word-at-requires c κs =
     let st = c .before in
-    omega (arith, table-long (st .args .s .now) (st .pre .0) (st .args .p) (st .pre .1))
+    omega (arith, table-long today (st .args .s .now) (st .pre .0) (st .args .p) (st .pre .1))
 
 number-requires : tie.Need-number-requires
 number-requires c κs =
     let st = c .before .before in
     let s = st .args .s .now in
-    omega (arith, c .word-at .ensures, kind-small (st .args .p) (kindOf s (st .args .p)) (kind-stands s (st .pre .0) (st .args .p) (st .pre .1)))
+    omega (arith, c .word-at .ensures, kind-small today (st .args .p) (kindOf s (st .args .p)) (kind-stands today s (st .pre .0) (st .args .p) (st .pre .1)))
 
 returns : tie.Need-returns
 returns c = number-back (c .number .result) _ _ (c .number .ok) (c .number .ensures) (c .before .word-at .ensures)

@@ -8,6 +8,8 @@ use Rattle.session.specs.Fault.{rangeFault}
 use Rattle.whole.proofs.Linear.{ret}
 use Rattle.sections.proofs.Sound.{counts-most}
 use Rattle.session.proofs.Answers.{number-back}
+use Rattle.sections.specs.Layouts.{places}
+use Rattle.sections.proofs.Shapes.{today}
 use borrow.Author.Needs.{needs}
 use Rattle.session.proofs.faults.range_fault.Statement.{statement}
 use Rattle.session.proofs.faults.range_fault.Tie as tie
@@ -24,7 +26,7 @@ kind-number-requires c κs = search needs
 number-requires : tie.Need-number-requires
 number-requires c κs =
     let st = c .before .before .before .before in
-    omega (arith, c .before .before .wrong-record .ensures, st .pre .2, counts-most (st .args .s .now) (st .pre .0) (st .args .p) (st .pre .1))
+    omega (arith, c .before .before .wrong-record .ensures, st .pre .2, counts-most today (st .args .s .now) (st .pre .0) (st .args .p) (st .pre .1))
 
 number-requires-2 : tie.Need-number-requires-2
 number-requires-2 c κs = search needs
@@ -36,7 +38,7 @@ returns c =
     let s = st .args .s .now in
     let p = st .args .p in
     let i = c .before .before .before .before .wrong-record .ensures in
-    let k = c .before .before .before .wrong-field .ensures .0 ∙ ap (λ (n : ℕ). firstNot (sizeOf s p) (fieldRight s p n)) i in
+    let k = c .before .before .before .wrong-field .ensures .0 ∙ ap (λ (n : ℕ). firstNot (sizeOf places s p) (fieldRight places s p n)) i in
     let a = ret (c .before .before .kind-number .result) (c .before .before .kind-number .ok) ∙ c .before .before .kind-number .ensures in
     let b = number-back (c .before .number .result) _ _ (c .before .number .ok) (c .before .number .ensures) i in
     let d = number-back (c .number2 .result) _ _ (c .number2 .ok) (c .number2 .ensures) k in

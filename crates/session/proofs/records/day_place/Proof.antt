@@ -1,15 +1,18 @@
-use mathlib.Core.Path.{_≡_, sym, _∙_}
+use mathlib.Core.Path.{_≡_, sym, ap, _∙_}
 use native.Mathlib.Omega.{arith}
-use Prim.Native.Nat.{_≤_, _<_}
+use Prim.Native.Nat.{_+_, _*_, _≤_, _<_}
 use mir.Syntax.{w64}
 use mir.Val.{toZ, ofZ}
 use mir.Facts.{toZ-ofZ}
+use Rattle.whole.proofs.Linear.{ret}
+use Rattle.text.specs.Words.{numberAt}
 use Rattle.sections.specs.File.{countOf, recordByte, fieldAt}
 use Rattle.sections.proofs.Accepted.{accepted-contents}
-use Rattle.sections.proofs.Sound.{counts-one}
-use Rattle.session.proofs.Fields.{size-third, field-back}
+use Rattle.sections.proofs.Sound.{counts-one, size-one}
 use Rattle.session.proofs.Laws.{first-past, day-place, day-before, day-after}
 use Rattle.session.proofs.Past.{diff-fits, diff-cast, diff-is}
+use Rattle.sections.specs.Layouts.{places}
+use Rattle.sections.proofs.Shapes.{today}
 use borrow.Author.Needs.{needs}
 use Rattle.session.proofs.records.day_place.Statement.{statement}
 use Rattle.session.proofs.records.day_place.Tie as tie
@@ -20,16 +23,17 @@ count-of-requires c κs = search needs
 record-byte-requires : tie.Need-record-byte-requires
 record-byte-requires c κs =
     let st = c .before .before in
-    (st .pre, omega arith, counts-one _ (accepted-contents _ (st .pre)) 2 (omega arith))
+    (st .pre, omega arith, counts-one today _ (accepted-contents today _ (st .pre)) 2 (omega arith))
 
 field-at-requires : tie.Need-field-at-requires
-field-at-requires c κs = omega (arith, c .record-byte .ensures .1, size-third _ (c .before .before .before .pre))
+field-at-requires c κs = omega (arith, c .record-byte .ensures .1, size-one today _ (accepted-contents today _ (c .before .before .before .pre)) 2 (omega arith))
 
 -- the first day's MJD, as the code has it
-first : (c : tie.After-field-at) → toZ w64 (ofZ w64 (c .field-at .result)) ≡ fieldAt (c .before .before .before .before .args .s .now) 2 0 0
+first : (c : tie.After-field-at) → toZ w64 (ofZ w64 (c .field-at .result)) ≡ fieldAt places (c .before .before .before .before .args .s .now) 2 0 0
 first c =
     let s = c .before .before .before .before .args .s .now in
-    field-back s (c .field-at .result) _ (recordByte s 2 0) 0 (c .field-at .ok) (c .field-at .ensures) (omega (arith, c .before .record-byte .ensures .0))
+    let e : c .before .record-byte .result + 8 * 0 ≡ recordByte places s 2 0 + 8 * 0 = omega (arith, c .before .record-byte .ensures .0) in
+    ret (c .field-at .result) (c .field-at .ok) ∙ c .field-at .ensures ∙ ap (numberAt s) e
 
 returns : tie.Need-returns
 returns c =

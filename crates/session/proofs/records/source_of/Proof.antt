@@ -1,41 +1,19 @@
-use native.Mathlib.Omega.{arith}
-use lib.IntN.{pos}
-use Rattle.sections.specs.File.{recordByte}
+use mathlib.Core.Path.{ap, _∙_}
+use Rattle.fields.specs.Records.{sourceFrom}
 use Rattle.session.specs.Records.{sourceOf}
-use Rattle.session.proofs.Fields.{size-second, field-back}
 use borrow.Author.Needs.{needs}
 use Rattle.session.proofs.records.source_of.Statement.{statement}
 use Rattle.session.proofs.records.source_of.Tie as tie
 
-record-byte-requires : tie.Need-record-byte-requires
-record-byte-requires c κs = search needs
+record-of-requires : tie.Need-record-of-requires
+record-of-requires c κs = search needs
 
-field-at-requires : tie.Need-field-at-requires
-field-at-requires c κs = omega (arith, c .record-byte .ensures .1, size-second _ (c .before .before .pre .0))
-
-field-at-requires-2 : tie.Need-field-at-requires-2
-field-at-requires-2 c κs = omega (arith, c .before .record-byte .ensures .1, size-second _ (c .before .before .before .pre .0))
-
-field-at-requires-3 : tie.Need-field-at-requires-3
-field-at-requires-3 c κs = omega (arith, c .before .before .record-byte .ensures .1, size-second _ (c .before .before .before .before .pre .0))
+source-from-requires : tie.Need-source-from-requires
+source-from-requires c κs = search needs
 
 returns : tie.Need-returns
 unfolding sourceOf
-returns c =
-    let s = c .before .before .before .before .before .args .s .now in
-    let b = c .before .before .before .record-byte in
-    let at = recordByte s 1 (c .before .before .before .before .before .args .i) in
-    let f0 = field-back s (c .before .before .field-at .result) _ at 0 (c .before .before .field-at .ok) (c .before .before .field-at .ensures) (omega (arith, b .ensures .0)) in
-    let f1 = field-back s (c .before .field-at2 .result) _ at 1 (c .before .field-at2 .ok) (c .before .field-at2 .ensures) (omega (arith, b .ensures .0)) in
-    let f2 = field-back s (c .field-at3 .result) _ at 2 (c .field-at3 .ok) (c .field-at3 .ensures) (omega (arith, b .ensures .0)) in
-    λ j. record { refusal = pos 0; id = f0 j; «right_ascension» = f1 j; declination = f2 j }
+returns c = c .source-from .ensures ∙ ap sourceFrom (c .before .before .record-of .ensures)
 
 pub source-of-spec : {M : Type 1} → statement M
-source-of-spec =
-    tie.close
-    (tie.spec
-    record-byte-requires
-    field-at-requires
-    field-at-requires-2
-    field-at-requires-3
-    returns)
+source-of-spec = tie.close (tie.spec record-of-requires source-from-requires returns)

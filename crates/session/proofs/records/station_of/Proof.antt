@@ -1,46 +1,19 @@
-use native.Mathlib.Omega.{arith}
-use lib.IntN.{pos}
-use Rattle.sections.specs.File.{recordByte}
+use mathlib.Core.Path.{ap, _∙_}
+use Rattle.fields.specs.Records.{stationFrom}
 use Rattle.session.specs.Records.{stationOf}
-use Rattle.session.proofs.Fields.{size-first, field-back}
 use borrow.Author.Needs.{needs}
 use Rattle.session.proofs.records.station_of.Statement.{statement}
 use Rattle.session.proofs.records.station_of.Tie as tie
 
-record-byte-requires : tie.Need-record-byte-requires
-record-byte-requires c κs = search needs
+record-of-requires : tie.Need-record-of-requires
+record-of-requires c κs = search needs
 
-field-at-requires : tie.Need-field-at-requires
-field-at-requires c κs = omega (arith, c .record-byte .ensures .1, size-first _ (c .before .before .pre .0))
-
-field-at-requires-2 : tie.Need-field-at-requires-2
-field-at-requires-2 c κs = omega (arith, c .before .record-byte .ensures .1, size-first _ (c .before .before .before .pre .0))
-
-field-at-requires-3 : tie.Need-field-at-requires-3
-field-at-requires-3 c κs = omega (arith, c .before .before .record-byte .ensures .1, size-first _ (c .before .before .before .before .pre .0))
-
-field-at-requires-4 : tie.Need-field-at-requires-4
-field-at-requires-4 c κs = omega (arith, c .before .before .before .record-byte .ensures .1, size-first _ (c .before .before .before .before .before .pre .0))
+station-from-requires : tie.Need-station-from-requires
+station-from-requires c κs = search needs
 
 returns : tie.Need-returns
 unfolding stationOf
-returns c =
-    let s = c .before .before .before .before .before .before .args .s .now in
-    let b = c .before .before .before .before .record-byte in
-    let at = recordByte s 0 (c .before .before .before .before .before .before .args .i) in
-    let f0 = field-back s (c .before .before .before .field-at .result) _ at 0 (c .before .before .before .field-at .ok) (c .before .before .before .field-at .ensures) (omega (arith, b .ensures .0)) in
-    let f1 = field-back s (c .before .before .field-at2 .result) _ at 1 (c .before .before .field-at2 .ok) (c .before .before .field-at2 .ensures) (omega (arith, b .ensures .0)) in
-    let f2 = field-back s (c .before .field-at3 .result) _ at 2 (c .before .field-at3 .ok) (c .before .field-at3 .ensures) (omega (arith, b .ensures .0)) in
-    let f3 = field-back s (c .field-at4 .result) _ at 3 (c .field-at4 .ok) (c .field-at4 .ensures) (omega (arith, b .ensures .0)) in
-    λ j. record { refusal = pos 0; id = f0 j; x = f1 j; y = f2 j; z = f3 j }
+returns c = c .station-from .ensures ∙ ap stationFrom (c .before .before .record-of .ensures)
 
 pub station-of-spec : {M : Type 1} → statement M
-station-of-spec =
-    tie.close
-    (tie.spec
-    record-byte-requires
-    field-at-requires
-    field-at-requires-2
-    field-at-requires-3
-    field-at-requires-4
-    returns)
+station-of-spec = tie.close (tie.spec record-of-requires station-from-requires returns)
