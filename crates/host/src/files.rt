@@ -1,10 +1,10 @@
 // Session files.
 use session::Counts;
-use session::Day;
-use session::Pass;
+use session::DayAnswer;
+use session::PassAnswer;
 use session::Place;
-use session::Source;
-use session::Station;
+use session::SourceAnswer;
+use session::StationAnswer;
 use whole::Number;
 ghost use Rattle.session.specs.Promises.{CheckPromise, FaultPromise, StationPromise, SourcePromise, DayPromise, PassPromise};
 ghost use Rattle.writer.specs.Promises.{WritePromise};
@@ -24,28 +24,28 @@ pub extern "C" fn fringe_fault(file: &[u8]) -> Place
 }
 
 #[no_mangle]
-pub extern "C" fn fringe_station_at(file: &[u8], index: usize) -> Station
+pub extern "C" fn fringe_station_at(file: &[u8], index: usize) -> StationAnswer
     ensures { λ r. ⌜ StationPromise (now (file .entry)) index r ⌝ }
 {
     session::station_at(file, index)
 }
 
 #[no_mangle]
-pub extern "C" fn fringe_source_at(file: &[u8], index: usize) -> Source
+pub extern "C" fn fringe_source_at(file: &[u8], index: usize) -> SourceAnswer
     ensures { λ r. ⌜ SourcePromise (now (file .entry)) index r ⌝ }
 {
     session::source_at(file, index)
 }
 
 #[no_mangle]
-pub extern "C" fn fringe_day_at(file: &[u8], index: usize) -> Day
+pub extern "C" fn fringe_day_at(file: &[u8], index: usize) -> DayAnswer
     ensures { λ r. ⌜ DayPromise (now (file .entry)) index r ⌝ }
 {
     session::day_at(file, index)
 }
 
 #[no_mangle]
-pub extern "C" fn fringe_pass_at(file: &[u8], index: usize) -> Pass
+pub extern "C" fn fringe_pass_at(file: &[u8], index: usize) -> PassAnswer
     ensures { λ r. ⌜ PassPromise (now (file .entry)) index r ⌝ }
 {
     session::pass_at(file, index)
