@@ -11,13 +11,14 @@ use lib.IntN.{ℤ}
 use lib.Dec.{eqb, leb, ltb}
 use borrow.Author.Tests.{eqb-true, leb-true, ltb-true}
 use Rattle.whole.specs.Each.{firstNot}
-use Rattle.whole.proofs.Linear.{and-true, in-yes}
+use Rattle.whole.proofs.Linear.{and-true}
 use Rattle.whole.proofs.Each.{below-each, first-same}
 use Rattle.whole.proofs.Values.{sample-at}
 use Rattle.text.specs.Words.{numberAt}
 use Rattle.fields.specs.declared.ranges.Range.{Range}
 use Rattle.fields.specs.Ranges.{Holds, inside}
 use Rattle.fields.specs.Records.{numberIn}
+use Rattle.fields.proofs.Inside.{inside-holds}
 use Rattle.sections.specs.Layouts.{Layout, Table, places, layoutsIn, rising, consecutive}
 use Rattle.sections.specs.File.{present, kindOf, layoutOf, sizeOf, rangeOf, firstByte, countOf, recordByte, fieldAt, eqZ, countRight, rangesRight, sectionRight, recordRight, fieldRight, refusalOf}
 use Rattle.sections.specs.Rows.{rowOf}
@@ -89,7 +90,7 @@ module _ (s : List ℕ) (h : refusalOf s ≡ 0) (p : ℕ) (a : p < 4) where
     pub field-in : Holds r (fieldAt places s p i k)
     field-in =
         let f = has-field k r e in
-        let w : Holds (rangeOf (layoutOf places s p) k) (fieldAt places s p i k) = in-yes _ _ (fieldAt places s p i k) inside-range in
+        let w = inside-holds (rangeOf (layoutOf places s p) k) (fieldAt places s p i k) inside-range in
         rw (f .1, f .2) at w
 
     pub number-in : Holds r (numberIn (rowOf places s p i) k)

@@ -1,7 +1,8 @@
 -- `fields::day_from` meets its contract.
 use borrow.Author.Needs.{needs}
-use Rattle.whole.proofs.Linear.{ret}
-use Rattle.fields.specs.Records.{numberIn, dayFrom}
+use native.Mathlib.Omega.{arith}
+use Rattle.fields.specs.Records.{dayFrom}
+use Rattle.fields.proofs.Rows.{number-back}
 use Rattle.fields.proofs.day_from.Statement.{statement}
 use Rattle.fields.proofs.day_from.Tie as tie
 
@@ -24,7 +25,7 @@ returns : tie.Need-returns
 unfolding dayFrom
 returns c =
     let row = c .before .before .before .before .before .args .row .now in
-    λ i. record { mjd = ret (numberIn row 0) (c .before .before .before .before .t4 .given) i; x = ret (numberIn row 1) (c .before .before .before .t7 .given) i; y = ret (numberIn row 2) (c .before .before .t10 .given) i; «ut1_utc» = ret (numberIn row 3) (c .before .t13 .given) i; «tai_utc» = ret (numberIn row 4) (c .t16 .given) i }
+    λ i. record { mjd = number-back row _ 0 (c .before .before .before .before .t4 .given) (omega arith) i; x = number-back row _ 1 (c .before .before .before .t7 .given) (omega arith) i; y = number-back row _ 2 (c .before .before .t10 .given) (omega arith) i; «ut1_utc» = number-back row _ 3 (c .before .t13 .given) (omega arith) i; «tai_utc» = number-back row _ 4 (c .t16 .given) (omega arith) i }
 
 pub day-from-spec : {M : Type 1} → statement M
 day-from-spec =

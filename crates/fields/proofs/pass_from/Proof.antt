@@ -1,7 +1,8 @@
 -- `fields::pass_from` meets its contract.
 use borrow.Author.Needs.{needs}
-use Rattle.whole.proofs.Linear.{ret}
-use Rattle.fields.specs.Records.{numberIn, passFrom}
+use native.Mathlib.Omega.{arith}
+use Rattle.fields.specs.Records.{passFrom}
+use Rattle.fields.proofs.Rows.{number-back}
 use Rattle.fields.proofs.pass_from.Statement.{statement}
 use Rattle.fields.proofs.pass_from.Tie as tie
 
@@ -35,14 +36,14 @@ returns c =
     let row = c .before .before .before .before .before .before .before .before .args .row .now in
     λ i.
     record {
-      station1 = ret (numberIn row 0) (c .before .before .before .before .before .before .before .t4 .given) i;
-      station2 = ret (numberIn row 1) (c .before .before .before .before .before .before .t7 .given) i;
-      source = ret (numberIn row 2) (c .before .before .before .before .before .t10 .given) i;
-      mjd = ret (numberIn row 3) (c .before .before .before .before .t13 .given) i;
-      ms = ret (numberIn row 4) (c .before .before .before .t16 .given) i;
-      step = ret (numberIn row 5) (c .before .before .t19 .given) i;
-      samples = ret (numberIn row 6) (c .before .t22 .given) i;
-      tolerance = ret (numberIn row 7) (c .t25 .given) i;
+      station1 = number-back row _ 0 (c .before .before .before .before .before .before .before .t4 .given) (omega arith) i;
+      station2 = number-back row _ 1 (c .before .before .before .before .before .before .t7 .given) (omega arith) i;
+      source = number-back row _ 2 (c .before .before .before .before .before .t10 .given) (omega arith) i;
+      mjd = number-back row _ 3 (c .before .before .before .before .t13 .given) (omega arith) i;
+      ms = number-back row _ 4 (c .before .before .before .t16 .given) (omega arith) i;
+      step = number-back row _ 5 (c .before .before .t19 .given) (omega arith) i;
+      samples = number-back row _ 6 (c .before .t22 .given) (omega arith) i;
+      tolerance = number-back row _ 7 (c .t25 .given) (omega arith) i;
     }
 
 pub pass-from-spec : {M : Type 1} → statement M

@@ -1,7 +1,8 @@
 -- `fields::source_from` meets its contract.
 use borrow.Author.Needs.{needs}
-use Rattle.whole.proofs.Linear.{ret}
-use Rattle.fields.specs.Records.{numberIn, sourceFrom}
+use native.Mathlib.Omega.{arith}
+use Rattle.fields.specs.Records.{sourceFrom}
+use Rattle.fields.proofs.Rows.{number-back}
 use Rattle.fields.proofs.source_from.Statement.{statement}
 use Rattle.fields.proofs.source_from.Tie as tie
 
@@ -18,7 +19,7 @@ returns : tie.Need-returns
 unfolding sourceFrom
 returns c =
     let row = c .before .before .before .args .row .now in
-    λ i. record { id = ret (numberIn row 0) (c .before .before .t4 .given) i; «right_ascension» = ret (numberIn row 1) (c .before .t7 .given) i; declination = ret (numberIn row 2) (c .t10 .given) i }
+    λ i. record { id = number-back row _ 0 (c .before .before .t4 .given) (omega arith) i; «right_ascension» = number-back row _ 1 (c .before .t7 .given) (omega arith) i; declination = number-back row _ 2 (c .t10 .given) (omega arith) i }
 
 pub source-from-spec : {M : Type 1} → statement M
 source-from-spec =

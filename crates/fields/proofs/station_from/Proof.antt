@@ -1,7 +1,8 @@
 -- `fields::station_from` meets its contract.
 use borrow.Author.Needs.{needs}
-use Rattle.whole.proofs.Linear.{ret}
-use Rattle.fields.specs.Records.{numberIn, stationFrom}
+use native.Mathlib.Omega.{arith}
+use Rattle.fields.specs.Records.{stationFrom}
+use Rattle.fields.proofs.Rows.{number-back}
 use Rattle.fields.proofs.station_from.Statement.{statement}
 use Rattle.fields.proofs.station_from.Tie as tie
 
@@ -21,7 +22,7 @@ returns : tie.Need-returns
 unfolding stationFrom
 returns c =
     let row = c .before .before .before .before .args .row .now in
-    λ i. record { id = ret (numberIn row 0) (c .before .before .before .t4 .given) i; x = ret (numberIn row 1) (c .before .before .t7 .given) i; y = ret (numberIn row 2) (c .before .t10 .given) i; z = ret (numberIn row 3) (c .t13 .given) i }
+    λ i. record { id = number-back row _ 0 (c .before .before .before .t4 .given) (omega arith) i; x = number-back row _ 1 (c .before .before .t7 .given) (omega arith) i; y = number-back row _ 2 (c .before .t10 .given) (omega arith) i; z = number-back row _ 3 (c .t13 .given) (omega arith) i }
 
 pub station-from-spec : {M : Type 1} → statement M
 station-from-spec =
