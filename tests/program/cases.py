@@ -36,10 +36,17 @@ def lacking(lists, index):
     return [(field, name) for field, (name, records) in enumerate(named) if name not in [record[0] for record in records]]
 
 
+def found(file, fault):
+    """The value at the place of a refusal 2, and its range."""
+    _, kind, record, field = fault
+    return (session.sections_of(file)[kind - 1][record][field], *session.SECTIONS[kind - 1][1][field])
+
+
 def said(file, stdout):
     """Standard error, for a file and what is printed for it: why the file is refused, or each pass that is."""
     if session.refusal(file):
-        return text([words.of_file(len(file), session.fault(file))])
+        fault = session.fault(file)
+        return text([words.of_file(len(file), fault, found(file, fault) if fault[0] == 2 else None)])
     lists = session.sections_of(file)
     return text(words.of_pass(index, number, lacking(lists, index)) for index, number in refused_passes(stdout))
 

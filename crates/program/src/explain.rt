@@ -1,44 +1,26 @@
 // What a refusal means, in plain words, on standard error.
 ghost use mathlib.Core.Path.{_≡_};
 ghost use mathlib.Core.Bool.{true};
-ghost use Prim.Native.Nat.{_<_};
+ghost use Prim.Native.Nat.{_<_, _≤_};
 ghost use lib.IntN.{pos};
 ghost use lib.Signed.{leZ};
 ghost use Rattle.whole.specs.Whole.{∣_∣};
 ghost use Rattle.session.specs.Records.{checkOf};
 ghost use Rattle.lines.specs.Text.{lentOutcome};
 ghost use Rattle.program.specs.Numbers.{Numbers};
+use crate::say::say;
+use crate::say::say_decimal;
+use crate::say::say_field;
+use crate::say::say_section;
+use crate::say::say_unit;
+use sections::layouts::layout_in;
 use session::Place;
 use session::records::source_by;
 use session::records::station_by;
+use text::words::number_at;
 use whole::sign::size;
 
-fn say(words: &[u8]) {
-    io::write_all(2, words);
-}
-
-// A number in decimal.
-fn decimal(z: i64) {
-    if z < 0 {
-        say(b"-");
-    }
-    io::print_decimal(2, size(z));
-}
-
 // ---- a file
-
-// The name of the section of a kind.
-fn section(kind: u64) {
-    if kind == 1 {
-        say(b"stations");
-    } else if kind == 2 {
-        say(b"sources");
-    } else if kind == 3 {
-        say(b"days");
-    } else {
-        say(b"passes");
-    }
-}
 
 // What number j of the contents table holds.
 fn table_word(j: u64) {
@@ -54,18 +36,19 @@ fn table_word(j: u64) {
     } else {
         say(b"number of ");
     }
-    section((j - 1) / 3 + 1);
+    say_section(((j - 1) / 3 + 1) as i64);
 }
 
-// Refusal 1, where number j of the contents table is the first that is wrong. The file ends inside it if it holds no more than j whole numbers.
-fn explain_table(length: usize, j: u64) {
+// Refusal 1, where the contents table is wrong at a number of it. The file ends inside the table if it holds no more whole numbers than stand before that.
+fn explain_table(length: usize, at: i64) {
+    let j = size(at);
     if length as u64 / 8 <= j {
         say(b"the file ends inside its contents table");
     } else {
         say(b"the contents table is not as it must be");
     }
     say(b"; see number ");
-    io::print_decimal(2, j);
+    say_decimal(at);
     say(b" of it (");
     table_word(j);
     say(b"); its numbers count from 0");
@@ -80,79 +63,99 @@ fn explain_length(length: usize) {
     }
 }
 
-fn station_field(k: u64) {
-    if k == 0 {
-        say(b"id");
-    } else if k == 1 {
-        say(b"X");
-    } else if k == 2 {
-        say(b"Y");
-    } else {
-        say(b"Z");
+// The number of 8 bytes from byte `at` on; 0 where the file does not hold them.
+fn number_from(file: &[u8], at: usize) -> i64 {
+    if file.len() < 8 {
+        return 0;
     }
+    if file.len() - 8 < at {
+        return 0;
+    }
+    number_at(file, at)
 }
 
-fn source_field(k: u64) {
-    if k == 0 {
-        say(b"id");
-    } else if k == 1 {
-        say(b"right ascension");
-    } else {
-        say(b"declination");
+// The place in which a kind stands, by the contents table.
+fn place_of(file: &[u8], kind: i64) -> usize
+    ensures { λ r. ⌜ r < 4 ⌝ }
+{
+    if number_from(file, 8) == kind {
+        return 0;
     }
+    if number_from(file, 32) == kind {
+        return 1;
+    }
+    if number_from(file, 56) == kind {
+        return 2;
+    }
+    3
 }
 
-fn day_field(k: u64) {
-    if k == 0 {
-        say(b"MJD");
-    } else if k == 1 {
-        say(b"x");
-    } else if k == 2 {
-        say(b"y");
-    } else if k == 3 {
-        say(b"UT1-UTC");
-    } else {
-        say(b"TAI-UTC");
+// n, or the length of the longest file.
+fn capped(n: u64) -> usize
+    ensures { λ r. ⌜ r ≤ 65_536 ⌝ }
+{
+    if n < 65_536 {
+        return n as usize;
     }
+    65_536
 }
 
-fn pass_field(k: u64) {
-    if k == 0 {
-        say(b"station 1");
-    } else if k == 1 {
-        say(b"station 2");
-    } else if k == 2 {
-        say(b"source");
-    } else if k == 3 {
-        say(b"MJD");
-    } else if k == 4 {
-        say(b"u");
-    } else if k == 5 {
-        say(b"step");
-    } else if k == 6 {
-        say(b"samples");
-    } else {
-        say(b"tolerance");
-    }
+// What stands in field k of record i of a place, whose records have so many numbers.
+fn found(file: &[u8], place: usize, numbers: usize, i: u64, k: usize) -> i64
+    requires { ⌜ (place < 4) × (k < 8) ⌝ }
+{
+    let first = capped(size(number_from(file, 24 * place + 16)));
+    let before = capped(numbers as u64) * capped(i);
+    number_from(file, first + 8 * (before + k))
 }
 
-// The name of field k of a record of the kind.
-fn field(kind: u64, k: u64) {
-    if kind == 1 {
-        station_field(k);
-    } else if kind == 2 {
-        source_field(k);
-    } else if kind == 3 {
-        day_field(k);
-    } else {
-        pass_field(k);
+// What stands in field k of record i of a kind, and what may.
+fn explain_range(file: &[u8], kind: i64, i: i64, k: usize)
+    requires { ⌜ k < 8 ⌝ }
+{
+    let place = place_of(file, kind);
+    let l = layout_in(place, size(kind) as usize);
+    say(b"; ");
+    say_field(kind, k);
+    say(b" is ");
+    say_decimal(found(file, place, l.size, size(i), k));
+    say(b", allowed ");
+    say_decimal(l.low[k]);
+    say(b" to ");
+    say_decimal(l.high[k]);
+    say_unit(kind, k);
+}
+
+// Where a refusal arises: field k of record i of a kind.
+fn explain_place(kind: i64, i: i64, k: usize)
+    requires { ⌜ k < 8 ⌝ }
+{
+    say(b"; see section ");
+    say_decimal(kind);
+    say(b" (");
+    say_section(kind);
+    say(b"), record ");
+    say_decimal(i);
+    say(b", field ");
+    say_decimal(k as i64);
+    say(b" (");
+    say_field(kind, k);
+    say(b"); records and fields count from 0");
+}
+
+// A field's number: no record has more than eight.
+fn field_number(z: i64) -> usize
+    ensures { λ r. ⌜ r < 8 ⌝ }
+{
+    let k = size(z);
+    if k < 8 {
+        return k as usize;
     }
+    7
 }
 
 // Refusals 2, 3 and 4, and the record and field at which they arise.
-fn explain_record(p: Place) {
-    let kind = size(p.section);
-    let k = size(p.field);
+fn explain_record(file: &[u8], p: Place) {
     if p.number == 2 {
         say(b"a field is outside its range");
     } else if p.number == 3 {
@@ -160,29 +163,23 @@ fn explain_record(p: Place) {
     } else {
         say(b"the orientation days are not consecutive");
     }
-    say(b"; see section ");
-    io::print_decimal(2, kind);
-    say(b" (");
-    section(kind);
-    say(b"), record ");
-    decimal(p.record);
-    say(b", field ");
-    io::print_decimal(2, k);
-    say(b" (");
-    field(kind, k);
-    say(b"); records and fields count from 0");
+    let k = field_number(p.field);
+    explain_place(p.section, p.record, k);
+    if p.number == 2 {
+        explain_range(file, p.section, p.record, k);
+    }
 }
 
 // What the refusal of a file means, and where it arises.
 pub(crate) fn explain_file(file: &[u8]) {
     let p = session::fault(file);
     say(b"refused ");
-    decimal(p.number);
+    say_decimal(p.number);
     say(b": ");
     if p.number != 1 {
-        explain_record(p);
+        explain_record(file, p);
     } else if p.field < 13 {
-        explain_table(file.len(), size(p.field));
+        explain_table(file.len(), p.field);
     } else {
         explain_length(file.len());
     }
@@ -191,20 +188,22 @@ pub(crate) fn explain_file(file: &[u8]) {
 
 // ---- a pass
 
-// An id that the file lacks, behind what the pass names it as.
-fn absent(name: &[u8], id: i64) {
+// An id that the file lacks, behind the name of the pass's field k that has it.
+fn absent(k: usize, id: i64)
+    requires { ⌜ k < 8 ⌝ }
+{
     say(b", ");
-    say(name);
+    say_field(4, k);
     say(b" (id ");
-    decimal(id);
+    say_decimal(id);
     say(b")");
 }
 
-fn absent_station(file: &[u8], name: &[u8], id: i64)
-    requires { ⌜ checkOf (now file) .refusal ≡ pos 0 ⌝ }
+fn absent_station(file: &[u8], k: usize, id: i64)
+    requires { ⌜ (checkOf (now file) .refusal ≡ pos 0) × (k < 8) ⌝ }
 {
     if station_by(file, id).refusal != 0 {
-        absent(name, id);
+        absent(k, id);
     }
 }
 
@@ -212,7 +211,7 @@ fn absent_source(file: &[u8], id: i64)
     requires { ⌜ checkOf (now file) .refusal ≡ pos 0 ⌝ }
 {
     if source_by(file, id).refusal != 0 {
-        absent(b"source", id);
+        absent(2, id);
     }
 }
 
@@ -222,8 +221,8 @@ fn explain_names(file: &[u8], i: usize)
 {
     let p = session::pass_at(file, i);
     say(b"the file lacks what the pass names");
-    absent_station(file, b"station 1", p.station1);
-    absent_station(file, b"station 2", p.station2);
+    absent_station(file, 0, p.station1);
+    absent_station(file, 1, p.station2);
     absent_source(file, p.source);
 }
 
@@ -239,7 +238,7 @@ fn refused_pass(i: usize, n: i64) {
     say(b"pass ");
     io::print_decimal(2, i as u64);
     say(b" refused ");
-    decimal(n);
+    say_decimal(n);
     say(b": ");
 }
 

@@ -8,6 +8,7 @@ ghost use Rattle.program.specs.Numbers.{Numbers};
 ghost use Rattle.program.specs.Promises.{RunPromise};
 
 mod explain;
+mod say;
 
 use explain::explain_file;
 use explain::explain_passes;

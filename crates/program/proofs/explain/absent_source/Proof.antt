@@ -7,9 +7,6 @@ use Rattle.program.proofs.explain.absent_source.Tie as tie
 source-by-requires : tie.Need-source-by-requires
 source-by-requires c κs = accepted (c .before .args .file .now) (c .before .pre)
 
-slice-aggregate-absent : tie.Need-slice-aggregate-absent
-slice-aggregate-absent c = search needs
-
 absent-requires : tie.Need-absent-requires
 absent-requires c κs = search needs
 
@@ -20,4 +17,4 @@ returns-2 : tie.Need-returns-2
 returns-2 c = search needs
 
 pub absent-source-spec : {M : Type 1} → statement M
-absent-source-spec = tie.close (tie.spec source-by-requires slice-aggregate-absent absent-requires returns returns-2)
+absent-source-spec = tie.close (tie.spec source-by-requires absent-requires returns returns-2)

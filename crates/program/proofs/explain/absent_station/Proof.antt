@@ -5,7 +5,7 @@ use Rattle.program.proofs.explain.absent_station.Statement.{statement}
 use Rattle.program.proofs.explain.absent_station.Tie as tie
 
 station-by-requires : tie.Need-station-by-requires
-station-by-requires c κs = accepted (c .before .before .args .file .now) (c .before .before .pre)
+station-by-requires c κs = accepted (c .before .args .file .now) (c .before .pre .0)
 
 absent-requires : tie.Need-absent-requires
 absent-requires c κs = search needs
