@@ -14,9 +14,9 @@ use crate::say::say_field;
 use crate::say::say_section;
 use crate::say::say_unit;
 use sections::layouts::layout_in;
+use sections::refusal::count_of;
 use session::Place;
-use session::records::source_by;
-use session::records::station_by;
+use session::records::place_by;
 use text::words::number_at;
 use whole::sign::size;
 
@@ -188,31 +188,25 @@ pub(crate) fn explain_file(file: &[u8]) {
 
 // ---- a pass
 
-// An id that the file lacks, behind the name of the pass's field k that has it.
-fn absent(k: usize, id: i64)
-    requires { ⌜ k < 8 ⌝ }
+// Whether place p has a record of an id.
+fn has(file: &[u8], p: usize, id: i64) -> bool
+    requires { ⌜ (checkOf (now file) .refusal ≡ pos 0) × (p < 4) ⌝ }
 {
+    place_by(file, p, id) < count_of(file, p)
+}
+
+// Field k of a pass and the id in it, if place p has no record of that id.
+fn absent(file: &[u8], k: usize, p: usize, id: i64)
+    requires { ⌜ (checkOf (now file) .refusal ≡ pos 0) × (k < 8) × (p < 4) ⌝ }
+{
+    if has(file, p, id) {
+        return;
+    }
     say(b", ");
     say_field(4, k);
     say(b" (id ");
     say_decimal(id);
     say(b")");
-}
-
-fn absent_station(file: &[u8], k: usize, id: i64)
-    requires { ⌜ (checkOf (now file) .refusal ≡ pos 0) × (k < 8) ⌝ }
-{
-    if station_by(file, id).refusal != 0 {
-        absent(k, id);
-    }
-}
-
-fn absent_source(file: &[u8], id: i64)
-    requires { ⌜ checkOf (now file) .refusal ≡ pos 0 ⌝ }
-{
-    if source_by(file, id).refusal != 0 {
-        absent(2, id);
-    }
 }
 
 // Refusal 5: which of the three ids the file lacks.
@@ -221,9 +215,9 @@ fn explain_names(file: &[u8], i: usize)
 {
     let p = session::pass_at(file, i);
     say(b"the file lacks what the pass names");
-    absent_station(file, 0, p.station1);
-    absent_station(file, 1, p.station2);
-    absent_source(file, p.source);
+    absent(file, 0, 0, p.station1);
+    absent(file, 1, 0, p.station2);
+    absent(file, 2, 1, p.source);
 }
 
 // Refusal 6: the pass has that number.
