@@ -13,49 +13,50 @@ use mir.Syntax.{w64}
 use mir.Val.{toZ, ofZ}
 use Rattle.whole.specs.Whole.{posPart, negPart, ∣_∣}
 use Rattle.whole.proofs.Linear.{zarith, and-true, add-law, eq⇒}
-use Rattle.whole.proofs.Machine.{var, is}
+use Rattle.whole.proofs.Machine.{is}
 use Rattle.earth.specs.declared.time.Epoch.{Epoch}
+use Rattle.fields.specs.Records.{InPass}
 use Rattle.fields.specs.Ranges.{Holds, mjd, millisecond}
-use Rattle.earth.proofs.Floors.{in-abs}
+use Rattle.earth.proofs.Floors.{in-abs, leaf}
 use Rattle.whole.specs.Each.{allBelow}
+use Rattle.sections.specs.Layouts.{places}
 use Rattle.sections.specs.File.{refusalOf, countOf, fieldAt}
 use Rattle.whole.proofs.Each.{below-each, below-all}
 use Rattle.whole.proofs.Tests.{and-yes, same-test}
-use Rattle.session.specs.declared.Pass.{Pass}
+use Rattle.fields.specs.declared.Pass.{Pass}
 use Rattle.session.specs.Records.{placeBy}
 use Rattle.session.proofs.Laws.{place-has, day-plus, day-place}
 use Rattle.wave.specs.Bounds.{InRecord, InEarth}
 use Rattle.wave.specs.DayValues.{earthOf}
 use Rattle.wave.proofs.DayLaws.{earth-size}
 use Rattle.delay.specs.declared.records.Days.{Days}
-use Rattle.delay.specs.Bounds.{InPass}
 use Rattle.delay.specs.Calls.{samplesOf, allCovered}
 use Rattle.delay.specs.Keeping.{daysFrom}
-use Rattle.delay.specs.Sessions.{hasDay, covers, earthIn, sampleEpoch}
+use Rattle.delay.specs.Sessions.{hasId, covers, earthIn, sampleEpoch}
 use Rattle.delay.proofs.Accepted.{day-by-in, has-day-in}
 use Rattle.delay.proofs.Epochs.{samples-count, sample-days, first-day}
 
 module _ (s : List ℕ) (d : ℤ) (accepted : refusalOf s ≡ 0) (c : covers s d ≡ true) where
-  both : (hasDay s d ≡ true) × (hasDay s (d +ℤ pos 1) ≡ true)
+  pub both-there : (hasId s 2 d ≡ true) × (hasId s 2 (d +ℤ pos 1) ≡ true)
   unfolding covers
-  both = and-true (hasDay s d) (hasDay s (d +ℤ pos 1)) c
+  both-there = and-true (hasId s 2 d) (hasId s 2 (d +ℤ pos 1)) c
 
   pub day-in : Holds mjd d
-  day-in = has-day-in s accepted d (both .0)
+  day-in = has-day-in s accepted d (both-there .0)
 
-  pub day-small : ∣ d ∣ ≤ 1000000
+  pub day-small : ∣ d ∣ ≤ 1_000_000
   day-small = le-trans (in-abs d day-in) (lit≤ tt)
 
   pub day-back : toZ w64 (ofZ w64 d) ≡ d
-  day-back = is (var d 1000000 day-small) tt
+  day-back = is (leaf d day-in) tt
 
 -- the records of an epoch's day and of the next, once they were read
 module _ (s : List ℕ) (e : Epoch) (accepted : refusalOf s ≡ 0) (c : covers s (e .day) ≡ true) (d : Days) (are : d ≡ daysFrom s (e .day)) where
   pub today-in : InRecord (d .today)
-  today-in = subst (λ (x : Days). InRecord (x .today)) (sym are) (day-by-in s accepted (e .day) (both s (e .day) accepted c .0))
+  today-in = subst (λ (x : Days). InRecord (x .today)) (sym are) (day-by-in s accepted (e .day) (both-there s (e .day) accepted c .0))
 
   pub next-in : InRecord (d .next)
-  next-in = subst (λ (x : Days). InRecord (x .next)) (sym are) (day-by-in s accepted (e .day +ℤ pos 1) (both s (e .day) accepted c .1))
+  next-in = subst (λ (x : Days). InRecord (x .next)) (sym are) (day-by-in s accepted (e .day +ℤ pos 1) (both-there s (e .day) accepted c .1))
 
   pub earth-by : earthOf (d .today) (d .next) e ≡ earthIn s e
   unfolding earthIn
@@ -69,12 +70,12 @@ earth-in-size s e h c m =
 
 -- ---- the file's days follow one another: between two that are covered each day is
 module _ (s : List ℕ) (accepted : refusalOf s ≡ 0) where
-  from-first : (d : ℤ) → hasDay s d ≡ true → d ≡ fieldAt s 2 0 0 +ℤ pos (placeBy s 2 d)
+  from-first : (d : ℤ) → hasId s 2 d ≡ true → d ≡ fieldAt places s 2 0 0 +ℤ pos (placeBy s 2 d)
   from-first d e = let l = ltb-true (placeBy s 2 d) (countOf s 2) e in sym (place-has s 2 d l) ∙ day-plus s accepted (placeBy s 2 d) l
 
-  day-between : (a b d : ℤ) → hasDay s a ≡ true → hasDay s b ≡ true → a ≤ℤ d → d ≤ℤ b → hasDay s d ≡ true
+  day-between : (a b d : ℤ) → hasId s 2 a ≡ true → hasId s 2 b ≡ true → a ≤ℤ d → d ≤ℤ b → hasId s 2 d ≡ true
   day-between a b d ha hb l m =
-      let f = fieldAt s 2 0 0 in
+      let f = fieldAt places s 2 0 0 in
       let i = placeBy s 2 a in
       let j = placeBy s 2 b in
       let k : ℕ = posPart d + negPart f - (posPart f + negPart d) in
@@ -88,8 +89,8 @@ module _ (s : List ℕ) (accepted : refusalOf s ≡ 0) where
   pub covered-between : (a b d : ℤ) → covers s a ≡ true → covers s b ≡ true → a ≤ℤ d → d ≤ℤ b → covers s d ≡ true
   unfolding covers
   covered-between a b d ha hb l m =
-      let today = and-true (hasDay s a) (hasDay s (a +ℤ pos 1)) ha .0 in
-      let next = and-true (hasDay s b) (hasDay s (b +ℤ pos 1)) hb .1 in
+      let today = and-true (hasId s 2 a) (hasId s 2 (a +ℤ pos 1)) ha .0 in
+      let next = and-true (hasId s 2 b) (hasId s 2 (b +ℤ pos 1)) hb .1 in
       and-yes
       (day-between a (b +ℤ pos 1) d today next l (omega (zarith, m, add-law b (pos 1))))
       (day-between a (b +ℤ pos 1) (d +ℤ pos 1) today next (omega (zarith, l, add-law d (pos 1))) (omega (zarith, m, add-law b (pos 1), add-law d (pos 1))))
@@ -113,3 +114,6 @@ module _ (s : List ℕ) (accepted : refusalOf s ≡ 0) where
       let before : sampleEpoch p i .day ≤ℤ sampleEpoch p (n - 1) .day = rw r at (sample-days p i (n - 1 - i) h (omega (arith, c .1))) in
       covered-between (p .mjd) (sampleEpoch p (n - 1) .day) (sampleEpoch p i .day) (t .0) (t .1) after before))
       (λ e. and-yes (ap (covers s) (sym (first-day p h)) ∙ below-each n 0 q (c .0) e) (below-each n (n - 1) q last e))
+
+  pub first-covered : (p : Pass) → InPass p → allCovered s p ≡ true → covers s (p .mjd) ≡ true
+  first-covered p h e = and-true (covers s (p .mjd)) (covers s (sampleEpoch p (samplesOf p - 1) .day)) (ends-tell p h ∙ e) .0

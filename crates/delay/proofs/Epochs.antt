@@ -9,25 +9,24 @@ use lib.Dec.{T}
 use lib.Signed.{_≤ℤ_, nonNeg}
 use mir.Syntax.{w64}
 use mir.Val.{Fits, toZ, ofZ}
-use Rattle.whole.proofs.Machine.{var, is}
+use Rattle.whole.proofs.Machine.{is}
 use Rattle.whole.specs.Whole.{posPart, negPart, ∣_∣, floorZ}
-use Rattle.whole.specs.Ranges.{In}
 use Rattle.whole.proofs.Linear.{zarith, parts-le, abs-add, mul-posPart, mul-negPart, add-law}
 use Rattle.whole.proofs.Rounding.{mod-below, floor-abs, floor-unique}
 use Rattle.whole.proofs.Quote.{⟨_⟩, #, _⊕_, _⊗_, by≡, by≤, by<}
-use Rattle.fields.specs.Ranges.{Holds, millisecond}
+use Rattle.fields.specs.Ranges.{Holds, millisecond, samples}
 use Rattle.earth.specs.Ranges.{added}
 use Rattle.earth.specs.declared.time.Epoch.{Epoch}
 use Rattle.earth.specs.Epoch.{laterOf}
 use Rattle.earth.proofs.Epochs.{later-ms, later-twice, later-day}
-use Rattle.earth.proofs.Floors.{in-abs}
-use Rattle.session.specs.declared.Pass.{Pass}
-use Rattle.delay.specs.Bounds.{InPass}
+use Rattle.earth.proofs.Floors.{in-abs, leaf}
+use Rattle.fields.specs.declared.Pass.{Pass}
+use Rattle.fields.specs.Records.{InPass}
 use Rattle.delay.specs.Calls.{samplesOf}
 use Rattle.delay.specs.Sessions.{startOf, sampleEpoch}
 
 -- a pass has 1 to 4,096 samples
-counted : (z : ℤ) → In (pos 1) (pos 4096) z → (1 ≤ natAbs z) × (natAbs z ≤ 4096)
+counted : (z : ℤ) → Holds samples z → (1 ≤ natAbs z) × (natAbs z ≤ 4096)
 counted (pos n) h = (omega (arith, h .p-lo), omega (arith, h .p-hi))
 counted (negsuc n) h = absurd (omega (arith, h .n-lo))
 
@@ -35,12 +34,12 @@ pub samples-count : (p : Pass) → InPass p → (1 ≤ samplesOf p) × (samplesO
 samples-count p h = counted (p .samples) (h .samples)
 
 -- read as a count by the code
-cast-in : (z : ℤ) → In (pos 1) (pos 4096) z → T (nonNeg z) × Fits w64 (natAbs z)
+cast-in : (z : ℤ) → Holds samples z → T (nonNeg z) × Fits w64 (natAbs z)
 cast-in (pos n) h = (tt, record { fits = omega (arith, h .p-hi) })
 cast-in (negsuc n) h = absurd (omega (arith, h .n-lo))
 
 pub samples-back : (p : Pass) → InPass p → toZ w64 (ofZ w64 (p .samples)) ≡ p .samples
-samples-back p h = is (var (p .samples) 4096 (in-abs (p .samples) (h .samples))) tt
+samples-back p h = is (leaf (p .samples) (h .samples)) tt
 
 pub samples-read : (p : Pass) → InPass p → natAbs (toZ w64 (ofZ w64 (p .samples))) ≡ samplesOf p
 samples-read p h = ap natAbs (samples-back p h)
@@ -49,10 +48,10 @@ pub samples-cast : (p : Pass) → InPass p → T (nonNeg (toZ w64 (ofZ w64 (p .s
 samples-cast p h = rw (samples-back p h) (cast-in (p .samples) (h .samples))
 
 pub mjd-back : (p : Pass) → InPass p → toZ w64 (ofZ w64 (p .mjd)) ≡ p .mjd
-mjd-back p h = is (var (p .mjd) 69806 (in-abs (p .mjd) (h .day))) tt
+mjd-back p h = is (leaf (p .mjd) (h .mjd)) tt
 
-pub mjd-small : (p : Pass) → InPass p → ∣ toZ w64 (ofZ w64 (p .mjd)) ∣ ≤ 1000000
-mjd-small p h = rw (mjd-back p h) (le-trans (in-abs (p .mjd) (h .day)) (lit≤ tt))
+pub mjd-small : (p : Pass) → InPass p → ∣ toZ w64 (ofZ w64 (p .mjd)) ∣ ≤ 1_000_000
+mjd-small p h = rw (mjd-back p h) (le-trans (in-abs (p .mjd) (h .mjd)) (lit≤ tt))
 
 -- what is added fits the rule of epochs
 pub add-in : (p : Pass) (i : ℕ) → InPass p → i < 4096 → Holds added (pos i *ℤ p .step)
@@ -74,14 +73,14 @@ sample-ms p i =
     let z = p .ms +ℤ pos i *ℤ p .step in
     record { n-lo = omega arith; p-lo = omega arith; p-hi = omega (arith, mod-below z 86400000 (omega arith)); n-hi = omega arith }
 
-pub sample-day : (p : Pass) (i : ℕ) → InPass p → i < 4096 → ∣ sampleEpoch p i .day ∣ ≤ 1000000
+pub sample-day : (p : Pass) (i : ℕ) → InPass p → i < 4096 → ∣ sampleEpoch p i .day ∣ ≤ 1_000_000
 unfolding sampleEpoch laterOf
 sample-day p i h l =
     let a = pos i *ℤ p .step in
     let z = p .ms +ℤ a in
     let m : ∣ z ∣ ≤ 1000 * 86400000 = omega (arith, abs-add (p .ms) a, in-abs (p .ms) (h .ms), in-abs a (add-in p i h l)) in
     let f = floor-abs z 86400000 1000 (omega arith) m in
-    omega (arith, abs-add (p .mjd) (floorZ z 86400000), in-abs (p .mjd) (h .day))
+    omega (arith, abs-add (p .mjd) (floorZ z 86400000), in-abs (p .mjd) (h .mjd))
 
 -- the first sample stands at the pass's own epoch
 pub first-day : (p : Pass) → InPass p → sampleEpoch p 0 .day ≡ p .mjd
@@ -89,7 +88,7 @@ unfolding sampleEpoch laterOf
 first-day p h =
     let z = p .ms +ℤ pos 0 *ℤ p .step in
     let l = parts-le (pos 0) (p .ms) (h .ms .p-lo) (h .ms .n-lo) in
-    let u = parts-le (p .ms) (pos 86399999) (h .ms .p-hi) (h .ms .n-hi) in
+    let u = parts-le (p .ms) (millisecond .high) (h .ms .p-hi) (h .ms .n-hi) in
     let f : floorZ z 86400000 ≡ pos 0 =
     floor-unique z (pos 0) 86400000 (omega arith)
     (by≤ (# 0 ⊗ # 86400000) (⟨ p .ms ⟩ ⊕ # 0 ⊗ ⟨ p .step ⟩) (omega zarith))

@@ -11,25 +11,29 @@ use Rattle.whole.specs.Whole.{∣_∣}
 use Rattle.whole.specs.declared.Number.{Number}
 use Rattle.earth.specs.declared.time.Epoch.{Epoch}
 use Rattle.earth.specs.Calls.{epochOf}
-use Rattle.fields.specs.Ranges.{inside, Holds, idNumber, mjd, millisecond}
+use Rattle.fields.specs.Ranges.{inside, Holds, idNumber, millisecond}
+use Rattle.sections.proofs.Shapes.{today}
 use Rattle.sections.specs.File.{refusalOf, countOf}
 use Rattle.whole.specs.Each.{allBelow, firstNot}
 use Rattle.whole.proofs.Each.{below-each, below-fails, not-all, first-fails}
 use Rattle.sections.proofs.Accepted.{refusal-most}
-use Rattle.session.specs.declared.Pass.{Pass}
+use Rattle.fields.specs.declared.Pass.{Pass}
 use Rattle.session.specs.Records.{stationBy, sourceBy, passOf}
 use Rattle.wave.proofs.Sizes.{between-size}
 use Rattle.wave.specs.Delays.{delayBetween}
 use Rattle.wave.proofs.Swapped.{between-neg, between-same}
 use Rattle.delay.specs.declared.EarthAnswer.{EarthAnswer}
 use Rattle.whole.specs.Answers.{given, answerBy}
-use Rattle.delay.specs.Calls.{lowest, unless, allThere, delayIn, delayNumber, delayOutcome, samplesOf, allCovered, sampleIn, samplesNumber, samplesRoom}
+use Rattle.whole.specs.Refusals.{unless, lowest}
+use Rattle.whole.proofs.Refusals.{lower-zero, unless-zero, first-zero}
+use Rattle.delay.specs.Calls.{epochOk, askedOk, allThere, delayIn, delayNumber, delayOutcome, samplesOf, allCovered, sampleIn, samplesNumber, samplesRoom}
+use Rattle.delay.specs.Keeping.{placesBy}
 use Rattle.delay.specs.Promises.{OrientationPromise, DelayPromise, SamplesPromise}
 use Rattle.delay.specs.Sessions.{hasId, covers, earthIn, sampleEpoch}
 use Rattle.delay.proofs.Accepted.{names-in}
 use Rattle.delay.proofs.Covered.{earth-in-size}
 use Rattle.delay.proofs.Epochs.{sample-ms}
-use Rattle.delay.proofs.Lowest.{lower-zero, unless-zero, days-first, six-fails}
+use Rattle.delay.proofs.Numbers.{judgedOf, indexOk, namesOk, daysOk, roomOk, delay-first, samples-first, six-fails}
 use Rattle.delay.proofs.Ranges.{asked-in}
 use Rattle.whole.proofs.Values.{sample-at}
 
@@ -53,8 +57,8 @@ and-swap false false c = refl
 pub delay-number-swap : (s : List ℕ) (a b r day ms : ℤ) → delayNumber s b a r day ms ≡ delayNumber s a b r day ms
 unfolding delayNumber
 delay-number-swap s a b r day ms =
-    ap (λ (t : Bool). lowest (refusalOf s ∷ unless t 2 ∷ unless (allThere s b a r) 5 ∷ unless (covers s day) 6 ∷ [])) (and-swap (inside idNumber b) (inside idNumber a) (inside idNumber r && (inside mjd day && inside millisecond ms)))
-    ∙ ap (λ (t : Bool). lowest (refusalOf s ∷ unless (inside idNumber a && (inside idNumber b && (inside idNumber r && (inside mjd day && inside millisecond ms)))) 2 ∷ unless t 5 ∷ unless (covers s day) 6 ∷ [])) (and-swap (hasId s 0 b) (hasId s 0 a) (hasId s 1 r))
+    ap (λ (t : Bool). lowest (refusalOf s ∷ unless t 2 ∷ unless (allThere s b a r) 5 ∷ unless (covers s day) 6 ∷ [])) (and-swap (inside idNumber b) (inside idNumber a) (inside idNumber r && epochOk day ms))
+    ∙ ap (λ (t : Bool). lowest (refusalOf s ∷ unless (askedOk a b r day ms) 2 ∷ unless t 5 ∷ unless (covers s day) 6 ∷ [])) (and-swap (hasId s 0 b) (hasId s 0 a) (hasId s 1 r))
 
 pub delay-in-swap : (s : List ℕ) (a b r : ℤ) (e : Epoch) → delayIn s b a r e ≡ negℤ (delayIn s a b r e)
 unfolding delayIn
@@ -87,7 +91,6 @@ delay-same s a r day ms =
 abbrev pub exchanged : Pass → Pass
 exchanged p =
     record {
-      refusal = p .refusal;
       station1 = p .station2;
       station2 = p .station1;
       source = p .source;
@@ -115,19 +118,20 @@ sample-same s p j e =
 pub delay-in-size : (s : List ℕ) (a b r : ℤ) (e : Epoch) → refusalOf s ≡ 0 → allThere s a b r ≡ true → covers s (e .day) ≡ true → Holds millisecond (e .ms) → ∣ delayIn s a b r e ∣ ≤ 130000000000
 unfolding delayIn
 delay-in-size s a b r e h t c m =
-    let n = names-in s h a b r t in
+    let n = names-in s h (placesBy s a b r) t in
     between-size (stationBy s a) (stationBy s b) (sourceBy s r) (earthIn s e) (n .0) (n .1) (earth-in-size s e h c m)
 
 -- what it says that a call of `delay` is not refused
 delay-clear : (s : List ℕ) (a b r day ms : ℤ) → delayNumber s a b r day ms ≡ 0 → (refusalOf s ≡ 0) × (allThere s a b r ≡ true) × (covers s day ≡ true) × Holds millisecond ms
-unfolding delayNumber
 delay-clear s a b r day ms e =
-    let o = inside idNumber a && (inside idNumber b && (inside idNumber r && (inside mjd day && inside millisecond ms))) in
-    let f = lower-zero (refusalOf s) (lowest (unless o 2 ∷ unless (allThere s a b r) 5 ∷ unless (covers s day) 6 ∷ [])) e in
-    let g = lower-zero (unless o 2) (lowest (unless (allThere s a b r) 5 ∷ unless (covers s day) 6 ∷ [])) (f .1) in
-    let k = lower-zero (unless (allThere s a b r) 5) (lowest (unless (covers s day) 6 ∷ [])) (g .1) in
-    let l = lower-zero (unless (covers s day) 6) 0 (k .1) in
-    (f .0, unless-zero (allThere s a b r) 4 (k .0), unless-zero (covers s day) 5 (l .0), asked-in (inside idNumber a) (inside idNumber b) (inside idNumber r) day ms (unless-zero o 1 (g .0)) .1)
+    let o = askedOk a b r day ms in
+    let t = allThere s a b r in
+    let c = covers s day in
+    let f = first-zero (judgedOf s o) (unless t 5 ∷ unless c 6 ∷ []) (sym (delay-first s a b r day ms) ∙ e) in
+    let j = lower-zero (refusalOf s) (unless o 2) (f .0) in
+    let g = first-zero (unless t 5) (unless c 6 ∷ []) (f .1) in
+    let k = first-zero (unless c 6) [] (g .1) in
+    (j .0, unless-zero t 4 (g .0), unless-zero c 5 (k .0), asked-in (inside idNumber a) (inside idNumber b) (inside idNumber r) day ms (unless-zero o 1 (j .1)) .1)
 
 answer-size : (n : ℕ) (v : ℤ) (k : ℕ) → (n ≡ 0 → ∣ v ∣ ≤ k) → ∣ answerBy n v .value ∣ ≤ k
 unfolding given
@@ -150,20 +154,19 @@ pub record Given (s : List ℕ) (i n : ℕ) : Type 0 where
   pub enough : leb (samplesOf (passOf s i)) n ≡ true
 
 pub samples-clear : (s : List ℕ) (i n : ℕ) → samplesNumber s i n ≡ 0 → Given s i n
-unfolding samplesNumber
 samples-clear s i n e =
-    let p = passOf s i in
-    let t = allThere s (p .station1) (p .station2) (p .source) in
-    let c = allCovered s p in
-    let m = leb (samplesOf p) n in
-    let f = lower-zero (refusalOf s) (lowest (unless (ltb i (countOf s 3)) 5 ∷ unless t 5 ∷ unless c 6 ∷ unless m 7 ∷ [])) e in
-    let g = lower-zero (unless (ltb i (countOf s 3)) 5) (lowest (unless t 5 ∷ unless c 6 ∷ unless m 7 ∷ [])) (f .1) in
-    let k = lower-zero (unless t 5) (lowest (unless c 6 ∷ unless m 7 ∷ [])) (g .1) in
-    let l = lower-zero (unless c 6) (lowest (unless m 7 ∷ [])) (k .1) in
-    let o = lower-zero (unless m 7) 0 (l .1) in
+    let x = indexOk s i n in
+    let t = namesOk s i n in
+    let c = daysOk s i n in
+    let m = roomOk s i n in
+    let f = first-zero (refusalOf s) (unless x 5 ∷ unless t 5 ∷ unless c 6 ∷ unless m 7 ∷ []) (sym (samples-first s i n) ∙ e) in
+    let g = first-zero (unless x 5) (unless t 5 ∷ unless c 6 ∷ unless m 7 ∷ []) (f .1) in
+    let k = first-zero (unless t 5) (unless c 6 ∷ unless m 7 ∷ []) (g .1) in
+    let l = first-zero (unless c 6) (unless m 7 ∷ []) (k .1) in
+    let o = first-zero (unless m 7) [] (l .1) in
     record {
       accepted = f .0;
-      there = unless-zero (ltb i (countOf s 3)) 4 (g .0);
+      there = unless-zero x 4 (g .0);
       named = unless-zero t 4 (k .0);
       covered = unless-zero c 5 (l .0);
       enough = unless-zero m 6 (o .0);
@@ -179,15 +182,15 @@ sample-bounded s i n j e h =
 
 -- sample j of the room is the delay at the pass's epoch with j·step added
 pub room-sample : (s : List ℕ) (i j : ℕ) (room : List ℤ) → samplesNumber s i (length room) ≡ 0 → j < samplesOf (passOf s i) → getD (samplesRoom s i room) j (pos 0) ≡ delayIn s (passOf s i .station1) (passOf s i .station2) (passOf s i .source) (sampleEpoch (passOf s i) j)
-unfolding samplesRoom sampleIn
+unfolding samplesRoom sampleIn given
 room-sample s i j room e h = rw e (sample-at (samplesOf (passOf s i)) (sampleIn s (passOf s i)) (drop (samplesOf (passOf s i)) room) j h)
 
 -- the number is 6 exactly if some sample's epoch lacks a record, of a pass that is there and names what is there
 pub six-if : (s : List ℕ) (i n : ℕ) → refusalOf s ≡ 0 → ltb i (countOf s 3) ≡ true → allThere s (passOf s i .station1) (passOf s i .station2) (passOf s i .source) ≡ true → (j : ℕ) → j < samplesOf (passOf s i) → covers s (sampleEpoch (passOf s i) j .day) ≡ false → samplesNumber s i n ≡ 6
-unfolding samplesNumber allCovered
+unfolding allCovered
 six-if s i n a t m j h c =
     let p = passOf s i in
-    rw (a, t, m, below-fails (samplesOf p) j (λ (x : ℕ). covers s (sampleEpoch p x .day)) h c) (days-first (leb (samplesOf p) n))
+    samples-first s i n ∙ rw (a, t, m, below-fails (samplesOf p) j (λ (x : ℕ). covers s (sampleEpoch p x .day)) h c) refl
 
 pub record Lacking (s : List ℕ) (p : Pass) : Type 0 where
   pub sample : ℕ
@@ -195,11 +198,11 @@ pub record Lacking (s : List ℕ) (p : Pass) : Type 0 where
   pub lacks : covers s (sampleEpoch p sample .day) ≡ false
 
 pub six-only : (s : List ℕ) (i n : ℕ) → samplesNumber s i n ≡ 6 → Lacking s (passOf s i)
-unfolding samplesNumber allCovered
+unfolding allCovered
 six-only s i n e =
     let p = passOf s i in
     let q : ℕ → Bool = λ (x : ℕ). covers s (sampleEpoch p x .day) in
-    let c = six-fails (refusalOf s) (ltb i (countOf s 3)) (allThere s (p .station1) (p .station2) (p .source)) (allBelow (samplesOf p) q) (leb (samplesOf p) n) (refusal-most s) e in
+    let c = six-fails (refusalOf s) (indexOk s i n) (namesOk s i n) (allBelow (samplesOf p) q) (roomOk s i n) (refusal-most today s) (sym (samples-first s i n) ∙ e) in
     let l = not-all (samplesOf p) q c in
     record { sample = firstNot (samplesOf p) q; within = l; lacks = first-fails (samplesOf p) q l }
 

@@ -1,17 +1,18 @@
 -- The three public calls: what each returns and leaves in the room lent, for every input. Document 01, 'Refusal numbers'.
-use Prim.Native.Nat.{ℕ, zero, suc, _+_, min}
-use mathlib.Core.Bool.{Bool, true, false, _&&_, cond}
+use Prim.Native.Nat.{ℕ}
+use mathlib.Core.Bool.{Bool, _&&_}
 use mathlib.Core.List.{List, [], _∷_, _++_}
 use lib.ListN.{length, drop}
 use lib.IntN.{ℤ, pos, natAbs}
-use lib.Dec.{leb, ltb, eqb}
+use lib.Dec.{leb, ltb}
 use Rattle.earth.specs.declared.time.Epoch.{Epoch}
 use Rattle.whole.specs.declared.Number.{Number}
-use Rattle.whole.specs.Answers.{answerBy}
+use Rattle.whole.specs.Answers.{given, answerBy}
+use Rattle.whole.specs.Refusals.{unless, lowest}
 use Rattle.whole.specs.Values.{firstValues}
 use Rattle.fields.specs.Ranges.{inside, idNumber, mjd, millisecond}
 use Rattle.earth.specs.Calls.{epochOf}
-use Rattle.session.specs.declared.Pass.{Pass}
+use Rattle.fields.specs.declared.Pass.{Pass}
 use Rattle.whole.specs.Each.{allBelow}
 use Rattle.sections.specs.File.{refusalOf, countOf}
 use Rattle.session.specs.Records.{stationBy, sourceBy, passOf}
@@ -20,25 +21,13 @@ use Rattle.wave.specs.declared.values.Earth.{Earth}
 use Rattle.wave.specs.Delays.{delayBetween}
 use Rattle.delay.specs.Sessions.{hasId, covers, earthIn, sampleEpoch}
 
--- "The lowest number that applies is given": of two numbers, where 0 is no refusal; and of a list.
-abbrev pub lowerOf : ℕ → ℕ → ℕ
-lowerOf zero b = b
-lowerOf (suc a) zero = suc a
-lowerOf (suc a) (suc b) = min (suc a) (suc b)
-
-abbrev pub lowest : List ℕ → ℕ
-lowest [] = 0
-lowest (n ∷ ns) = lowerOf n (lowest ns)
-
--- the number n where a condition fails
-abbrev pub unless : Bool → ℕ → ℕ
-unless true n = 0
-unless false n = n
-
 -- ---- orientation(file, day, ms)
 
+abbrev pub epochOk : ℤ → ℤ → Bool
+epochOk day ms = inside mjd day && inside millisecond ms
+
 unfoldable pub orientationNumber : List ℕ → ℤ → ℤ → ℕ
-orientationNumber s day ms = lowest (refusalOf s ∷ unless (inside mjd day && inside millisecond ms) 2 ∷ unless (covers s day) 6 ∷ [])
+orientationNumber s day ms = lowest (refusalOf s ∷ unless (epochOk day ms) 2 ∷ unless (covers s day) 6 ∷ [])
 
 abbrev pub earthAnswer : Earth → EarthAnswer
 earthAnswer e = record { refusal = pos 0; x = e .x; y = e .y; «ut1_utc» = e .«ut1_utc»; tick = e .tick }
@@ -47,11 +36,12 @@ abbrev pub noEarth : ℕ → EarthAnswer
 noEarth n = record { refusal = pos n; x = pos 0; y = pos 0; «ut1_utc» = pos 0; tick = 0 }
 
 unfoldable pub orientationOutcome : List ℕ → ℤ → ℤ → EarthAnswer
-orientationOutcome s day ms =
-    let n = orientationNumber s day ms in
-    cond (eqb n 0) (earthAnswer (earthIn s (epochOf day ms))) (noEarth n)
+orientationOutcome s day ms = given (orientationNumber s day ms) (earthAnswer (earthIn s (epochOf day ms))) noEarth
 
 -- ---- delay(file, station1, station2, source, day, ms)
+
+abbrev pub askedOk : ℤ → ℤ → ℤ → ℤ → ℤ → Bool
+askedOk a b r day ms = inside idNumber a && (inside idNumber b && (inside idNumber r && epochOk day ms))
 
 -- the stations and the source of these ids are there
 abbrev pub allThere : List ℕ → ℤ → ℤ → ℤ → Bool
@@ -59,12 +49,7 @@ allThere s a b r = hasId s 0 a && (hasId s 0 b && hasId s 1 r)
 
 unfoldable pub delayNumber : List ℕ → ℤ → ℤ → ℤ → ℤ → ℤ → ℕ
 delayNumber s a b r day ms =
-    lowest
-    (refusalOf s
-    ∷ unless (inside idNumber a && (inside idNumber b && (inside idNumber r && (inside mjd day && inside millisecond ms)))) 2
-    ∷ unless (allThere s a b r) 5
-    ∷ unless (covers s day) 6
-    ∷ [])
+    lowest (refusalOf s ∷ unless (askedOk a b r day ms) 2 ∷ unless (allThere s a b r) 5 ∷ unless (covers s day) 6 ∷ [])
 
 -- the delay at an epoch of the stations and the source that these ids name
 unfoldable pub delayIn : List ℕ → ℤ → ℤ → ℤ → Epoch → ℤ
@@ -79,7 +64,7 @@ delayOutcome s a b r day ms = answerBy (delayNumber s a b r day ms) (delayIn s a
 abbrev pub samplesOf : Pass → ℕ
 samplesOf p = natAbs (p .samples)
 
--- 6: "an epoch, or any sample's epoch, lacks record d or d+1"
+-- refusal 6 says that this fails: the file covers the day of every sample
 unfoldable pub allCovered : List ℕ → Pass → Bool
 allCovered s p = allBelow (samplesOf p) (λ (i : ℕ). covers s (sampleEpoch p i .day))
 
@@ -106,4 +91,4 @@ unfoldable pub samplesRoom : List ℕ → ℕ → List ℤ → List ℤ
 samplesRoom s i room =
     let p = passOf s i in
     let k = samplesOf p in
-    cond (eqb (samplesNumber s i (length room)) 0) (firstValues k (sampleIn s p) ++ drop k room) room
+    given (samplesNumber s i (length room)) (firstValues k (sampleIn s p) ++ drop k room) (λ (n : ℕ). room)

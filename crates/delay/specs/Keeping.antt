@@ -1,20 +1,37 @@
--- What the code looks up, and keeps from one sample to the next: records by id, those of a day and the next, and the tide of a minute of TT.
+-- What the code looks up, and keeps from one sample to the next: where records stand, those of a day and the next, and the tide of a minute of TT.
 use mathlib.Core.Path.{_≡_}
-use mathlib.Core.List.{List}
+use mathlib.Core.Bool.{Bool, _&&_}
+use mathlib.Core.List.{List, [], _∷_}
 use Prim.Native.Nat.{ℕ}
+use lib.Dec.{leb, ltb}
 use lib.IntN.{ℤ, pos, _+ℤ_}
+use Rattle.whole.specs.Refusals.{unless, firstOf}
+use Rattle.fields.specs.declared.Pass.{Pass}
 use Rattle.earth.specs.declared.time.Epoch.{Epoch}
-use Rattle.session.specs.Records.{dayBy, stationBy, sourceBy}
+use Rattle.sections.specs.File.{countOf}
+use Rattle.session.specs.Records.{stationOf, sourceOf, dayBy, placeBy}
 use Rattle.wave.specs.declared.Sight.{Sight}
-use Rattle.wave.specs.Keeping.{TrueMinute, delaySeen}
+use Rattle.wave.specs.Keeping.{TrueMinute, sightOf, delaySeen}
 use Rattle.delay.specs.declared.keep.Kept.{Kept}
 use Rattle.delay.specs.declared.records.Days.{Days}
-use Rattle.delay.specs.declared.records.Named.{Named}
-use Rattle.delay.specs.Calls.{allThere}
+use Rattle.delay.specs.declared.records.Places.{Places}
+use Rattle.delay.specs.Calls.{samplesOf, allCovered}
 use Rattle.delay.specs.Sessions.{earthIn}
 
-abbrev pub namedBy : List ℕ → ℤ → ℤ → ℤ → Named
-namedBy s a b r = record { found = allThere s a b r; first = stationBy s a; second = stationBy s b; source = sourceBy s r }
+-- where the records of two stations and of a source stand, and whether they are there
+abbrev pub placesBy : List ℕ → ℤ → ℤ → ℤ → Places
+placesBy s a b r = record { first = placeBy s 0 a; second = placeBy s 0 b; source = placeBy s 1 r }
+
+abbrev pub placesThere : List ℕ → Places → Bool
+placesThere s n = ltb (n .first) (countOf s 0) && (ltb (n .second) (countOf s 0) && ltb (n .source) (countOf s 1))
+
+-- what the file lacks for a pass that names them, and for which there is this room
+abbrev pub lacksBy : List ℕ → Pass → Places → ℕ → ℕ
+lacksBy s p n room = firstOf (unless (placesThere s n) 5 ∷ unless (allCovered s p) 6 ∷ unless (leb (samplesOf p) room) 7 ∷ [])
+
+-- the sight from the two stations to the source
+abbrev pub sightIn : List ℕ → Places → Sight
+sightIn s n = sightOf (stationOf s (n .first)) (stationOf s (n .second)) (sourceOf s (n .source))
 
 abbrev pub daysFrom : List ℕ → ℤ → Days
 daysFrom s d = record { day = d; today = dayBy s d; next = dayBy s (d +ℤ pos 1) }

@@ -1,4 +1,3 @@
-pub mod Bounds
 pub mod Calls
 pub mod Keeping
 pub mod Promises

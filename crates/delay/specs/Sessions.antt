@@ -1,13 +1,13 @@
--- Document 01, 'Day values' and 'Delay', of a session file: whether it covers an epoch, the earth there, and the epochs of a pass.
+-- Document 01, 'Day values' and 'Delay', of a session file: what it has for an epoch, the earth there, and the epochs of a pass.
 use Prim.Native.Nat.{ℕ}
 use mathlib.Core.Bool.{Bool, _&&_}
 use mathlib.Core.List.{List}
 use lib.IntN.{ℤ, pos, _+ℤ_, _*ℤ_}
 use lib.Dec.{ltb}
+use Rattle.fields.specs.declared.Pass.{Pass}
 use Rattle.earth.specs.declared.time.Epoch.{Epoch}
 use Rattle.earth.specs.Epoch.{laterOf}
 use Rattle.earth.specs.Calls.{epochOf}
-use Rattle.session.specs.declared.Pass.{Pass}
 use Rattle.sections.specs.File.{countOf}
 use Rattle.session.specs.Records.{dayBy, placeBy}
 use Rattle.wave.specs.declared.values.Earth.{Earth}
@@ -17,18 +17,15 @@ use Rattle.wave.specs.DayValues.{earthOf}
 abbrev pub hasId : List ℕ → ℕ → ℤ → Bool
 hasId s p z = ltb (placeBy s p z) (countOf s p)
 
-abbrev pub hasDay : List ℕ → ℤ → Bool
-hasDay s d = hasId s 2 d
-
--- "An epoch on day d needs records d and d+1."
+-- the records of day d and of the next, which every epoch of day d takes
 unfoldable pub covers : List ℕ → ℤ → Bool
-covers s d = hasDay s d && hasDay s (d +ℤ pos 1)
+covers s d = hasId s 2 d && hasId s 2 (d +ℤ pos 1)
 
 -- the earth at an epoch that the file covers
 unfoldable pub earthIn : List ℕ → Epoch → Earth
 earthIn s e = earthOf (dayBy s (e .day)) (dayBy s (e .day +ℤ pos 1)) e
 
--- "Sample i of a pass, counted from 0, is the delay at its epoch with i·step added."
+-- sample i, counted from 0, stands i steps behind the epoch of its pass
 abbrev pub startOf : Pass → Epoch
 startOf p = epochOf (p .mjd) (p .ms)
 

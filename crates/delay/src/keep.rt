@@ -11,8 +11,6 @@ use wave::values::minute_at;
 use wave::values::minutes_by;
 ghost use mathlib.Core.Path.{_≡_};
 ghost use mathlib.Core.Bool.{true};
-ghost use Prim.Native.Nat.{_≤_};
-ghost use Rattle.whole.specs.Whole.{∣_∣};
 ghost use Rattle.fields.specs.Ranges.{Holds, millisecond};
 ghost use Rattle.sections.specs.File.{refusalOf};
 ghost use Rattle.wave.specs.Bounds.{InSight};
@@ -31,9 +29,9 @@ pub struct Sampled {
     pub kept: Kept,
 }
 
-// What is kept at the start of a pass.
+// What is kept at the start of a pass, on a day that the file covers.
 pub fn kept_from(s: &[u8], day: i64) -> Kept
-    requires { ⌜ (refusalOf (now s) ≡ 0) × (∣ day ∣ ≤ 1000000) ⌝ }
+    requires { ⌜ (refusalOf (now s) ≡ 0) × (covers (now s) day ≡ true) ⌝ }
     ensures { λ r. ⌜ TrueKept (now (s .entry)) r ⌝ }
 {
     Kept {
@@ -47,7 +45,7 @@ pub fn kept_from(s: &[u8], day: i64) -> Kept
 
 // The records of this day and of the next, read anew only where the day is another.
 fn days_at(s: &[u8], kept: Days, day: i64) -> Days
-    requires { ⌜ (refusalOf (now s) ≡ 0) × (∣ day ∣ ≤ 1000000) × (kept ≡ daysFrom (now s) (kept .day)) ⌝ }
+    requires { ⌜ (refusalOf (now s) ≡ 0) × (covers (now s) day ≡ true) × (kept ≡ daysFrom (now s) (kept .day)) ⌝ }
     ensures { λ r. ⌜ r ≡ daysFrom (now (s .entry)) day ⌝ }
 {
     if kept.day == day {

@@ -8,24 +8,25 @@ use fields::ranges::ID;
 use fields::ranges::MILLISECOND;
 use fields::ranges::MJD;
 use fields::ranges::inside;
-use pass::all_covered;
+use pass::lacks;
 use pass::write_samples;
+use records::all_there;
+use records::both;
 use records::covers;
 use records::earth_in;
 use records::named_by;
+use records::sight_in;
 use sections::refusal::count_of;
 use sections::refusal::refusal_of;
 use session::records::pass_of;
-use wave::delay_between;
-use wave::sight_of;
+use wave::delay_seen;
 use whole::Number;
 use whole::sign::number;
 ghost use mathlib.Core.Path.{_≡_};
-ghost use mathlib.Core.Bool.{_&&_};
 ghost use Prim.Native.Nat.{_≤_, _<_};
 ghost use Rattle.whole.specs.Answers.{noNumber};
-ghost use Rattle.fields.specs.Ranges.{inside, idNumber, mjd, millisecond};
-ghost use Rattle.delay.specs.Calls.{lowerOf, unless, noEarth};
+ghost use Rattle.whole.specs.Refusals.{lowerOf, unless};
+ghost use Rattle.delay.specs.Calls.{askedOk, epochOk, noEarth};
 ghost use Rattle.delay.specs.Promises.{OrientationPromise, DelayPromise, SamplesPromise};
 
 // As used at an epoch: the pole, UT1-UTC with the tide, and ERA.
@@ -76,9 +77,9 @@ fn no_number(n: usize) -> Number
 }
 
 fn epoch_ok(day: i64, ms: i64) -> bool
-    ensures { λ r. ⌜ r ≡ (inside mjd day && inside millisecond ms) ⌝ }
+    ensures { λ r. ⌜ r ≡ epochOk day ms ⌝ }
 {
-    inside(MJD, day) && inside(MILLISECOND, ms)
+    both(inside(MJD, day), inside(MILLISECOND, ms))
 }
 
 // The pole, UT1-UTC with the tide, and ERA, as used at an epoch.
@@ -104,9 +105,10 @@ pub fn orientation(file: &[u8], day: i64, ms: i64) -> EarthAnswer
 
 // Whether the three ids and the epoch are in their ranges.
 fn asked_ok(station1: i64, station2: i64, source: i64, day: i64, ms: i64) -> bool
-    ensures { λ r. ⌜ r ≡ (inside idNumber station1 && (inside idNumber station2 && (inside idNumber source && (inside mjd day && inside millisecond ms)))) ⌝ }
+    ensures { λ r. ⌜ r ≡ askedOk station1 station2 source day ms ⌝ }
 {
-    inside(ID, station1) && (inside(ID, station2) && (inside(ID, source) && epoch_ok(day, ms)))
+    let source_on = both(inside(ID, source), epoch_ok(day, ms));
+    both(inside(ID, station1), both(inside(ID, station2), source_on))
 }
 
 // The delay in picoseconds, at an epoch, of the stations and the source that the ids name.
@@ -121,7 +123,7 @@ pub fn delay(file: &[u8], station1: i64, station2: i64, source: i64, day: i64, m
         return no_number(n);
     }
     let names = named_by(file, station1, station2, source);
-    if !names.found {
+    if !all_there(file, names) {
         return no_number(5);
     }
     if !covers(file, day) {
@@ -130,7 +132,7 @@ pub fn delay(file: &[u8], station1: i64, station2: i64, source: i64, day: i64, m
     let e = earth_in(file, Epoch { day: day, ms: ms });
     Number {
         refusal: 0,
-        value: delay_between(names.first, names.second, names.source, e),
+        value: delay_seen(sight_in(file, names), e),
     }
 }
 
@@ -147,17 +149,11 @@ pub fn samples(file: &[u8], pass: usize, room: &mut [i64]) -> Number
     }
     let p = pass_of(file, pass);
     let names = named_by(file, p.station1, p.station2, p.source);
-    if !names.found {
-        return no_number(5);
+    let lacking = lacks(file, p, names, room.len());
+    if lacking != 0 {
+        return no_number(lacking);
     }
-    if !all_covered(file, p) {
-        return no_number(6);
-    }
-    if room.len() < p.samples as usize {
-        return no_number(7);
-    }
-    let sight = sight_of(names.first, names.second, names.source);
-    write_samples(file, p, sight, room);
+    write_samples(file, p, sight_in(file, names), room);
     Number {
         refusal: 0,
         value: p.samples,

@@ -1,21 +1,24 @@
 // A pass: its samples' epochs, and its samples.
 use crate::keep::kept_from;
 use crate::keep::sample_at;
+use crate::records::Places;
+use crate::records::all_there;
+use crate::records::both;
 use crate::records::covers;
 use earth::Epoch;
-use session::Pass;
+use fields::Pass;
 use wave::Sight;
 ghost use mathlib.Core.Path.{_≡_};
 ghost use mathlib.Core.Bool.{true};
 ghost use mathlib.Core.List.{_++_};
 ghost use Prim.Native.Nat.{ℕ, _<_, _≤_};
 ghost use lib.ListN.{length, drop};
+ghost use Rattle.fields.specs.Records.{InPass};
 ghost use Rattle.sections.specs.File.{refusalOf};
 ghost use Rattle.wave.specs.Bounds.{InSight};
-ghost use Rattle.delay.specs.Bounds.{InPass};
 ghost use Rattle.whole.specs.Values.{firstValues};
 ghost use Rattle.delay.specs.Calls.{allCovered, samplesOf};
-ghost use Rattle.delay.specs.Keeping.{delayAt};
+ghost use Rattle.delay.specs.Keeping.{delayAt, lacksBy};
 ghost use Rattle.delay.specs.Sessions.{covers, sampleEpoch};
 
 // The epoch of sample i.
@@ -31,13 +34,30 @@ fn sample_epoch(p: Pass, i: usize) -> Epoch
 }
 
 // Whether the file covers every sample's epoch. Its days follow one another, so that the first sample and the last tell.
-pub fn all_covered(s: &[u8], p: Pass) -> bool
+fn all_covered(s: &[u8], p: Pass) -> bool
     requires { ⌜ (refusalOf (now s) ≡ 0) × InPass p ⌝ }
     ensures { λ r. ⌜ r ≡ allCovered (now (s .entry)) p ⌝ }
 {
     let n = p.samples as usize;
     let last = sample_epoch(p, n - 1);
-    covers(s, p.mjd) && covers(s, last.day)
+    both(covers(s, p.mjd), covers(s, last.day))
+}
+
+// What an accepted file lacks for a pass that names these places: 5, 6, or 7 for room; or 0.
+pub fn lacks(s: &[u8], p: Pass, n: Places, room: usize) -> usize
+    requires { ⌜ (refusalOf (now s) ≡ 0) × InPass p ⌝ }
+    ensures { λ r. ⌜ (r ≡ lacksBy (now (s .entry)) p n room) × (r ≤ 7) ⌝ }
+{
+    if !all_there(s, n) {
+        return 5;
+    }
+    if !all_covered(s, p) {
+        return 6;
+    }
+    if room < p.samples as usize {
+        return 7;
+    }
+    0
 }
 
 // The samples of a pass along its sight, written from the start of the room.

@@ -1,32 +1,34 @@
-// What the delays take from an accepted file: the records that three ids name, those of a day and the next, and the earth at an epoch.
+// What the delays take from an accepted file: the records that three ids name, those of a day and of the next, and the earth at an epoch.
 use earth::Epoch;
 use earth::rows::tide_at_minute;
-use session::Day;
-use session::Source;
-use session::Station;
-use session::records::day_by;
-use session::records::source_by;
-use session::records::station_by;
+use fields::Day;
+use sections::refusal::count_of;
+use session::records::day_of;
+use session::records::day_place;
+use session::records::place_by;
+use session::records::source_of;
+use session::records::station_of;
+use wave::Sight;
+use wave::sight_of;
 use wave::values::Earth;
 use wave::values::earth_at;
 use wave::values::minutes_by;
 ghost use mathlib.Core.Path.{_≡_};
 ghost use mathlib.Core.Bool.{true, _&&_};
-ghost use Prim.Native.Nat.{_≤_};
-ghost use lib.IntN.{pos};
+ghost use Prim.Native.Nat.{_<_, _≤_};
+ghost use lib.Dec.{ltb};
 ghost use Rattle.whole.specs.Whole.{∣_∣};
 ghost use Rattle.fields.specs.Ranges.{Holds, millisecond};
-ghost use Rattle.sections.specs.File.{refusalOf, eqZ};
-ghost use Rattle.wave.specs.Bounds.{InEarth};
-ghost use Rattle.delay.specs.Keeping.{daysFrom, namedBy};
-ghost use Rattle.delay.specs.Sessions.{covers, earthIn};
+ghost use Rattle.sections.specs.File.{refusalOf, countOf};
+ghost use Rattle.wave.specs.Bounds.{InEarth, InSight};
+ghost use Rattle.delay.specs.Keeping.{daysFrom, placesBy, placesThere, sightIn};
+ghost use Rattle.delay.specs.Sessions.{covers, earthIn, hasId};
 
-// The records that the ids of two stations and of a source name, and whether all three are there.
-pub struct Named {
-    pub found: bool,
-    pub first: Station,
-    pub second: Station,
-    pub source: Source,
+// Where the records of two stations and of a source stand, each in its section.
+pub struct Places {
+    pub first: usize,
+    pub second: usize,
+    pub source: usize,
 }
 
 // The records of a day and of the next.
@@ -36,55 +38,79 @@ pub struct Days {
     pub next: Day,
 }
 
-// Whether a record that was looked for is there.
-fn there(refusal: i64) -> bool
-    ensures { λ r. ⌜ r ≡ eqZ refusal (pos 0) ⌝ }
+// Whether both hold.
+pub fn both(a: bool, b: bool) -> bool
+    ensures { λ r. ⌜ r ≡ (a && b) ⌝ }
 {
-    refusal == 0
+    a && b
 }
 
-fn all_there(a: Station, b: Station, r: Source) -> bool
-    ensures { λ t. ⌜ t ≡ (eqZ (a .refusal) (pos 0) && (eqZ (b .refusal) (pos 0) && eqZ (r .refusal) (pos 0))) ⌝ }
+// Whether place p has a record i.
+fn there(s: &[u8], p: usize, i: usize) -> bool
+    requires { ⌜ (refusalOf (now s) ≡ 0) × (p < 4) ⌝ }
+    ensures { λ r. ⌜ r ≡ ltb i (countOf (now (s .entry)) p) ⌝ }
 {
-    there(a.refusal) && (there(b.refusal) && there(r.refusal))
+    i < count_of(s, p)
 }
 
-// The records of two stations and of a source, by their ids.
-pub fn named_by(s: &[u8], station1: i64, station2: i64, source: i64) -> Named
+// Where the records of two stations and of a source stand, by their ids.
+pub fn named_by(s: &[u8], station1: i64, station2: i64, source: i64) -> Places
     requires { ⌜ refusalOf (now s) ≡ 0 ⌝ }
-    ensures { λ r. ⌜ r ≡ namedBy (now (s .entry)) station1 station2 source ⌝ }
+    ensures { λ r. ⌜ r ≡ placesBy (now (s .entry)) station1 station2 source ⌝ }
 {
-    let a = station_by(s, station1);
-    let b = station_by(s, station2);
-    let r = source_by(s, source);
-    let found = all_there(a, b, r);
-    Named {
-        found: found,
-        first: a,
-        second: b,
-        source: r,
+    Places {
+        first: place_by(s, 0, station1),
+        second: place_by(s, 0, station2),
+        source: place_by(s, 1, source),
     }
 }
 
-// The records of a day and of the next.
-pub fn days_from(s: &[u8], day: i64) -> Days
-    requires { ⌜ (refusalOf (now s) ≡ 0) × (∣ day ∣ ≤ 1000000) ⌝ }
-    ensures { λ r. ⌜ r ≡ daysFrom (now (s .entry)) day ⌝ }
+pub fn all_there(s: &[u8], n: Places) -> bool
+    requires { ⌜ refusalOf (now s) ≡ 0 ⌝ }
+    ensures { λ r. ⌜ r ≡ placesThere (now (s .entry)) n ⌝ }
 {
-    Days {
-        day: day,
-        today: day_by(s, day),
-        next: day_by(s, day + 1),
-    }
+    both(
+        there(s, 0, n.first),
+        both(there(s, 0, n.second), there(s, 1, n.source)),
+    )
+}
+
+// The sight from the two stations to the source.
+pub fn sight_in(s: &[u8], n: Places) -> Sight
+    requires { ⌜ (refusalOf (now s) ≡ 0) × (placesThere (now s) n ≡ true) ⌝ }
+    ensures { λ v. ⌜ (v ≡ sightIn (now (s .entry)) n) × InSight v ⌝ }
+{
+    let a = station_of(s, n.first);
+    let b = station_of(s, n.second);
+    let r = source_of(s, n.source);
+    sight_of(a, b, r)
+}
+
+fn has_day(s: &[u8], day: i64) -> bool
+    requires { ⌜ refusalOf (now s) ≡ 0 ⌝ }
+    ensures { λ r. ⌜ r ≡ hasId (now (s .entry)) 2 day ⌝ }
+{
+    there(s, 2, day_place(s, day))
 }
 
 // Whether the file has the records of a day and of the next.
 pub fn covers(s: &[u8], day: i64) -> bool
-    requires { ⌜ (refusalOf (now s) ≡ 0) × (∣ day ∣ ≤ 1000000) ⌝ }
+    requires { ⌜ (refusalOf (now s) ≡ 0) × (∣ day ∣ ≤ 1_000_000) ⌝ }
     ensures { λ r. ⌜ r ≡ covers (now (s .entry)) day ⌝ }
 {
-    let d = days_from(s, day);
-    there(d.today.refusal) && there(d.next.refusal)
+    both(has_day(s, day), has_day(s, day + 1))
+}
+
+// The records of a day that the file covers, and of the next.
+pub fn days_from(s: &[u8], day: i64) -> Days
+    requires { ⌜ (refusalOf (now s) ≡ 0) × (covers (now s) day ≡ true) ⌝ }
+    ensures { λ r. ⌜ r ≡ daysFrom (now (s .entry)) day ⌝ }
+{
+    Days {
+        day: day,
+        today: day_of(s, day_place(s, day)),
+        next: day_of(s, day_place(s, day + 1)),
+    }
 }
 
 // The earth at an epoch that the file covers.

@@ -1,7 +1,7 @@
 -- The samples of a pass as they are taken for its track. Assumes nothing.
 use mathlib.Core.Path.{_≡_, sym, ap, _∙_}
 use mathlib.Core.List.{List}
-use Prim.Native.Nat.{ℕ, _≤_}
+use Prim.Native.Nat.{ℕ, _≤_, _<_}
 use native.Mathlib.Omega.{arith}
 use borrow.Author.Tests.{leb-true, ltb-true}
 use lib.IntN.{ℤ, pos, negsuc, natAbs}
@@ -9,13 +9,13 @@ use lib.ListN.{length, take, drop, length-append, length-drop}
 use lib.Seq.{take-at}
 use Rattle.whole.specs.Whole.{∣_∣}
 use Rattle.whole.specs.declared.Number.{Number}
-use Rattle.sections.specs.File.{countOf}
-use Rattle.session.specs.Records.{passOf, passAt}
+use Rattle.sections.specs.File.{refusalOf, countOf}
+use Rattle.session.specs.Records.{passOf}
 use Rattle.whole.specs.Values.{firstValues}
+use Rattle.whole.specs.Answers.{given}
 use Rattle.whole.proofs.Answers.{given-yes, given-no, answer-yes, answer-refusal}
 use Rattle.whole.proofs.Values.{values-long}
 use Rattle.delay.specs.Calls.{samplesOf, sampleIn, samplesNumber, samplesOutcome, samplesRoom}
-use Rattle.session.proofs.Answers.{asked-there, pass-yes}
 use Rattle.delay.proofs.Theorems.{samples-clear}
 use Rattle.track.specs.Answer.{Outcome, outcome, refused}
 use Rattle.fringe.specs.PassTrack.{passSamples, passOutcome}
@@ -37,7 +37,7 @@ size-is (negsuc n) = omega arith
 
 -- the samples stand at the start of the room, which is as long as before
 pub room-is : (s : List ℕ) (i : ℕ) (zs : List ℤ) → samplesNumber s i (length zs) ≡ 0 → take (samplesOf (passOf s i)) (samplesRoom s i zs) ≡ passSamples s i
-unfolding samplesRoom passSamples
+unfolding samplesRoom passSamples given
 room-is s i zs e =
     let k = samplesOf (passOf s i) in
     let f = sampleIn s (passOf s i) in
@@ -47,7 +47,7 @@ pub room-long : (s : List ℕ) (i : ℕ) (zs : List ℤ)
     → samplesNumber s i (length zs) ≡ 0
     → samplesOf (passOf s i) ≤ length zs
     → length (samplesRoom s i zs) ≡ length zs
-unfolding samplesRoom
+unfolding samplesRoom given
 room-long s i zs e h =
     let k = samplesOf (passOf s i) in
     let f = sampleIn s (passOf s i) in
@@ -69,8 +69,8 @@ unfolding passOutcome
 made-is s i room e = sym (given-yes (samplesNumber s i 4096) _ (λ n. refused n room) e)
 
 -- where nothing applies the pass is there, and its samples are few
-pub pass-is : (s : List ℕ) (i l : ℕ) → samplesNumber s i l ≡ 0 → passAt s i ≡ passOf s i
-pass-is s i l e = let g = samples-clear s i l e in pass-yes s i (asked-there s 3 i (g .accepted) (ltb-true i (countOf s 3) (g .there)))
+pub pass-there : (s : List ℕ) (i l : ℕ) → samplesNumber s i l ≡ 0 → (refusalOf s ≡ 0) × (i < countOf s 3)
+pass-there s i l e = let g = samples-clear s i l e in (g .accepted, ltb-true i (countOf s 3) (g .there))
 
 pub few : (s : List ℕ) (i l : ℕ) → samplesNumber s i l ≡ 0 → samplesOf (passOf s i) ≤ l
 few s i l e = leb-true (samplesOf (passOf s i)) l (samples-clear s i l e .enough)

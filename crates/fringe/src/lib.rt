@@ -16,7 +16,7 @@ pub fn pass_track(file: &[u8], pass: usize, room: &mut [i64]) -> Number
             value: 0,
         };
     }
-    let p = session::pass_at(file, pass);
+    let p = session::records::pass_of(file, pass);
     let k = size(taken.value) as usize;
     track::track(&samples[..k], p.tolerance, room)
 }

@@ -13,7 +13,7 @@ use values::Earth;
 ghost use mathlib.Core.Path.{_≡_};
 ghost use Rattle.fields.specs.Records.{InSource, InStation};
 ghost use Rattle.wave.specs.Bounds.{InEarth, InSight, Short};
-ghost use Rattle.wave.specs.Delays.{angleFor, baselineOf, delayBetween};
+ghost use Rattle.wave.specs.Delays.{angleFor, baselineOf};
 ghost use Rattle.wave.specs.Keeping.{delaySeen, sightOf};
 
 // What is fixed in a pass: the baseline, the source, its right ascension as a tick, and the cosine and the sine of its declination.
@@ -63,12 +63,4 @@ pub fn delay_seen(v: Sight, e: Earth) -> i64
 {
     let h = std::num::wrapping_sub_u32(angle_for(v.source, e), v.right_ascension);
     delay_at(v.baseline, e.x, e.y, h, v.declination)
-}
-
-// The delay in picoseconds of two stations' records and a source's record, with the earth as it is at an epoch.
-pub fn delay_between(a: Station, b: Station, r: Source, e: Earth) -> i64
-    requires { ⌜ InStation a × InStation b × InSource r × InEarth e ⌝ }
-    ensures { λ d. ⌜ d ≡ delayBetween a b r e ⌝ }
-{
-    delay_seen(sight_of(a, b, r), e)
 }

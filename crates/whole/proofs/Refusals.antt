@@ -1,8 +1,8 @@
 -- Where the numbers stand in their order the lowest that applies is the first, as the code comes to it test by test. Assumes nothing.
-use mathlib.Core.Path.{_≡_, refl, _∙_}
+use mathlib.Core.Path.{_≡_, refl, sym, _∙_}
 use mathlib.Core.Bool.{Bool, true, false}
 use mathlib.Core.List.{List, [], _∷_}
-use Prim.Native.Nat.{ℕ, zero, suc, _≤_}
+use Prim.Native.Nat.{ℕ, zero, suc, min, _≤_, _<_}
 use native.Mathlib.Omega.{arith}
 use Rattle.whole.specs.Refusals.{unless, lowerOf, lowest, firstOf}
 
@@ -54,3 +54,36 @@ first-zero (suc n) ns e = absurd (omega arith)
 pub first-is : (n : ℕ) (ns : List ℕ) → (n ≡ 0 → ⊥) → firstOf (n ∷ ns) ≡ n
 first-is zero ns g = absurd (g refl)
 first-is (suc n) ns g = refl
+
+-- ---- two numbers joined to their lower one
+
+pub lower-none : (a : ℕ) → lowerOf a 0 ≡ a
+lower-none zero = refl
+lower-none (suc a) = refl
+
+both-given : (a b : ℕ) → 0 < a → 0 < b → lowerOf a b ≡ min a b
+both-given zero b h k = absurd (omega arith)
+both-given (suc a) zero h k = absurd (omega arith)
+both-given (suc a) (suc b) h k = refl
+
+lower-assoc : (a b c : ℕ) → lowerOf a (lowerOf b c) ≡ lowerOf (lowerOf a b) c
+lower-assoc zero b c = refl
+lower-assoc (suc a) zero c = refl
+lower-assoc (suc a) (suc b) zero = sym (lower-none (min (suc a) (suc b)))
+lower-assoc (suc a) (suc b) (suc c) =
+    both-given (suc a) (min (suc b) (suc c)) (omega arith) (omega arith)
+    ∙ omega arith
+    ∙ sym (both-given (min (suc a) (suc b)) (suc c) (omega arith) (omega arith))
+
+pub joined : (a b : ℕ) (ns : List ℕ) → lowest (a ∷ b ∷ ns) ≡ lowest (lowerOf a b ∷ ns)
+joined a b ns = lower-assoc a b (lowest ns)
+
+pub lower-zero : (a b : ℕ) → lowerOf a b ≡ 0 → (a ≡ 0) × (b ≡ 0)
+lower-zero zero b e = (refl, e)
+lower-zero (suc a) zero e = absurd (omega arith)
+lower-zero (suc a) (suc b) e = absurd (omega arith)
+
+pub lower-most : (a b k : ℕ) → a ≤ k → b ≤ k → lowerOf a b ≤ k
+lower-most zero b k h l = l
+lower-most (suc a) zero k h l = h
+lower-most (suc a) (suc b) k h l = omega arith

@@ -1,14 +1,11 @@
 -- `delay::judged` meets its contract.
-use mathlib.Core.Path.{_≡_, refl}
+use mathlib.Core.Path.{_≡_, refl, sym}
 use Prim.Native.Nat.{ℕ, zero, suc, _≤_}
 use native.Mathlib.Omega.{arith}
-use Rattle.delay.specs.Calls.{lowerOf}
+use Rattle.whole.specs.Refusals.{lowerOf}
+use Rattle.whole.proofs.Refusals.{lower-none}
 use Rattle.delay.proofs.judged.Statement.{statement}
 use Rattle.delay.proofs.judged.Tie as tie
-
-none : (n : ℕ) → n ≡ lowerOf n 0
-none zero = refl
-none (suc n) = refl
 
 two : (n : ℕ) → n ≤ 4 → (n ≡ 1 → ⊥) → 2 ≡ lowerOf n 2
 two zero h l = refl
@@ -16,7 +13,7 @@ two (suc zero) h l = absurd (l refl)
 two (suc (suc n)) h l = omega arith
 
 returns : tie.Need-returns
-returns c = rw (c .if1 .taken) (none (c .before .args .file), c .before .pre)
+returns c = rw (c .if1 .taken) (sym (lower-none (c .before .args .file)), c .before .pre)
 
 returns-2 : tie.Need-returns-2
 returns-2 c = rw (c .before .if1 .left, c .if2 .taken) (refl, omega arith)

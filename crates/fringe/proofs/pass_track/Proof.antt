@@ -14,13 +14,13 @@ use mir.Syntax.{w64}
 use mir.Val.{toZ, ofZ}
 use Rattle.whole.specs.Whole.{∣_∣}
 use Rattle.whole.proofs.Linear.{ret}
-use Rattle.session.specs.declared.Pass.{Pass}
+use Rattle.fields.specs.declared.Pass.{Pass}
 use Rattle.session.specs.Records.{passOf}
 use Rattle.whole.specs.declared.Number.{Number}
 use Rattle.delay.specs.Calls.{samplesOf, samplesNumber, samplesOutcome, samplesRoom}
 use Rattle.track.specs.Answer.{outcome}
 use Rattle.fringe.specs.PassTrack.{passSamples}
-use Rattle.fringe.proofs.Taken.{refusal-is, value-is, size-is, room-is, room-long, refused-is, made-is, pass-is, few}
+use Rattle.fringe.proofs.Taken.{refusal-is, value-is, size-is, room-is, room-long, refused-is, made-is, pass-there, few}
 use Rattle.fringe.proofs.pass_track.Statement.{statement}
 use Rattle.fringe.proofs.pass_track.Tie as tie
 
@@ -91,8 +91,8 @@ count c =
     ∙ ap ∣_∣ (ret (d .samples2 .result .value) (c .before .struct-told2 .given .1 .0 .1) ∙ ap (λ (r : Number). r .value) (answer d) ∙ value-is (fileOf d) (passIn d) 4096 (accepted e))
     ∙ size-is (passOf (fileOf d) (passIn d) .samples)
 
-pass-at-requires : tie.Need-pass-at-requires
-pass-at-requires c κs = search needs
+pass-of-requires : tie.Need-pass-of-requires
+pass-of-requires c κs = let d = c .before .before .before in pass-there (fileOf d) (passIn d) 4096 (accepted c)
 
 size-requires : tie.Need-size-requires
 size-requires c κs = search needs
@@ -121,11 +121,11 @@ returns-2 c =
     let e = z .before .before .before in
     let d = e .before .before .before in
     let room = d .before .before .before .args .room .now in
-    let p = z .before .before .pass-at in
+    let p = z .before .before .pass-of in
     let xs : take (z .size .result) (d .samples2 .last .1 .1 .0) ≡ passSamples (fileOf d) (passIn d) =
     ap₂ take (count z) (stored d) ∙ room-is (fileOf d) (passIn d) before (room-accepted e) in
     let t : toZ w64 (ofZ w64 (p .result .tolerance)) ≡ passOf (fileOf d) (passIn d) .tolerance =
-    ret (p .result .tolerance) (c .before .before .struct-told3 .given .1 .1 .1 .1 .1 .1 .1 .1 .0 .1) ∙ ap (λ (q : Pass). q .tolerance) (p .ensures ∙ pass-is (fileOf d) (passIn d) 4096 (accepted e)) in
+    ret (p .result .tolerance) (c .before .before .struct-told3 .given .1 .1 .1 .1 .1 .1 .1 .0 .1) ∙ ap (λ (q : Pass). q .tolerance) (p .ensures) in
     c .before .track .ensures ∙ ap₂ (λ (ys : List ℤ) (u : ℤ). outcome ys u room) xs t ∙ made-is (fileOf d) (passIn d) room (accepted e)
 
 pub pass-track-spec : {M : Type 1} → statement M
@@ -135,7 +135,7 @@ pass-track-spec =
     slice-aggregate-samples
     samples-requires
     returns
-    pass-at-requires
+    pass-of-requires
     size-requires
     array-share-prefix-samples
     slice-aggregate-track

@@ -16,7 +16,7 @@ use Rattle.wave.proofs.DayLaws.{tide-size}
 use Rattle.delay.specs.declared.records.Days.{Days}
 use Rattle.delay.specs.Keeping.{daysFrom, delayAt}
 use Rattle.delay.specs.Sessions.{earthIn}
-use Rattle.delay.proofs.Covered.{day-in, day-small, day-back, today-in, next-in, earth-by}
+use Rattle.delay.proofs.Covered.{day-in, day-back, today-in, next-in, earth-by}
 use Rattle.delay.proofs.keep.sample_at.Statement.{statement}
 use Rattle.delay.proofs.keep.sample_at.Tie as tie
 
@@ -30,7 +30,7 @@ module _ (s : tie.Start) where
 days-at-requires : tie.Need-days-at-requires
 days-at-requires c κs =
     let s = c .before .before in
-    (s .pre .0 .0, rw (day-back (file s) (day s) (s .pre .0 .0) (s .pre .1 .0)) (day-small (file s) (day s) (s .pre .0 .0) (s .pre .1 .0)), s .pre .0 .1 .days-are)
+    (s .pre .0 .0, rw (day-back (file s) (day s) (s .pre .0 .0) (s .pre .1 .0)) (s .pre .1 .0), s .pre .0 .1 .days-are)
 
 module _ (c : tie.After-days-at) where
   abbrev start : tie.Start

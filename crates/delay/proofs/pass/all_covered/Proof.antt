@@ -1,18 +1,18 @@
 -- `delay::pass::all_covered` meets its contract.
-use mathlib.Core.Path.{_≡_, sym, ap, _∙_}
-use mathlib.Core.Bool.{Bool, true, false, _&&_}
+use mathlib.Core.Path.{_≡_, ap, _∙_}
 use mathlib.Core.List.{List}
 use Prim.Native.Nat.{ℕ, _-_, _≤_, _<_}
 use native.Mathlib.Omega.{arith}
+use borrow.Author.Needs.{needs}
 use lib.IntN.{ℤ, natAbs}
 use mir.Syntax.{w64}
 use mir.Val.{toZ, ofZ}
 use Rattle.whole.specs.Whole.{∣_∣}
 use Rattle.whole.proofs.Machine.{var, is}
 use Rattle.earth.specs.declared.time.Epoch.{Epoch}
-use Rattle.session.specs.declared.Pass.{Pass}
-use Rattle.delay.specs.Calls.{samplesOf, allCovered}
-use Rattle.delay.specs.Sessions.{covers, sampleEpoch}
+use Rattle.fields.specs.declared.Pass.{Pass}
+use Rattle.delay.specs.Calls.{samplesOf}
+use Rattle.delay.specs.Sessions.{sampleEpoch}
 use Rattle.delay.proofs.Covered.{ends-tell}
 use Rattle.delay.proofs.Epochs.{samples-count, samples-read, samples-cast, mjd-back, mjd-small, sample-day}
 use Rattle.delay.proofs.pass.all_covered.Statement.{statement}
@@ -53,44 +53,36 @@ module _ (c : tie.After-sample-epoch) where
       ap (λ (e : Epoch). e .day) (c .sample-epoch .ensures)
       ∙ ap (λ (n : ℕ). sampleEpoch (pass start) (n - 1) .day) (samples-read (pass start) (start .pre .1))
 
-  last-small : ∣ last ∣ ≤ 1000000
+  last-small : ∣ last ∣ ≤ 1_000_000
   last-small = sample-day (pass start) (samplesOf (pass start) - 1) (start .pre .1) (omega (arith, samples-count (pass start) (start .pre .1) .1))
 
   last-back : toZ w64 (ofZ w64 (c .sample-epoch .result .day)) ≡ last
-  last-back = ap (λ (z : ℤ). toZ w64 (ofZ w64 z)) last-is ∙ is (var last 1000000 last-small) tt
+  last-back = ap (λ (z : ℤ). toZ w64 (ofZ w64 z)) last-is ∙ is (var last 1_000_000 last-small) tt
 
-  day-small : ∣ toZ w64 (ofZ w64 (c .sample-epoch .result .day)) ∣ ≤ 1000000
+  day-small : ∣ toZ w64 (ofZ w64 (c .sample-epoch .result .day)) ∣ ≤ 1_000_000
   day-small = rw last-back last-small
 
 covers-requires : tie.Need-covers-requires
 covers-requires c κs = let s = start (c .before) in (s .pre .0, mjd-small (pass s) (s .pre .1))
 
-first-is : (c : tie.After-covers) → c .covers .result ≡ covers (file (c .before .before)) (pass (start (c .before .before)) .mjd)
-first-is c = let s = start (c .before .before) in rw (mjd-back (pass s) (s .pre .1)) at (c .covers .ensures)
-
 covers-requires-2 : tie.Need-covers-requires-2
 covers-requires-2 c κs =
-    let e = c .before .before .before .before in
+    let e = c .before .before .before in
     let s = start e in
     (s .pre .0, day-small e)
 
+both-requires : tie.Need-both-requires
+both-requires c κs = search needs
+
 returns : tie.Need-returns
 returns c =
-    let t = c .before .before in
-    let e = t .before .before .before in
+    let l = c .before in
+    let f = l .before .before in
+    let e = f .before .before in
     let s = start e in
-    let f = file e in
-    let first : covers f (pass s .mjd) ≡ true = sym (first-is (t .before)) ∙ t .if1 .taken in
-    let all : covers f (last e) ≡ allCovered f (pass s) = ap (λ (b : Bool). b && covers f (last e)) (sym first) ∙ ends-tell f (s .pre .0) (pass s) (s .pre .1) in
-    rw (last-back e) at (c .covers2 .ensures) ∙ all
-
-returns-2 : tie.Need-returns-2
-returns-2 c =
-    let e = c .before .before .before in
-    let s = start e in
-    let f = file e in
-    let none : covers f (pass s .mjd) ≡ false = sym (first-is (c .before)) ∙ c .if1 .left in
-    c .if1 .left ∙ ap (λ (b : Bool). b && covers f (last e)) (sym none) ∙ ends-tell f (s .pre .0) (pass s) (s .pre .1)
+    let first = rw (mjd-back (pass s) (s .pre .1)) at (f .covers .ensures) in
+    let last = rw (last-back e) at (l .covers2 .ensures) in
+    c .both .ensures ∙ rw (first, last) (ends-tell (file e) (s .pre .0) (pass s) (s .pre .1))
 
 pub all-covered-spec : {M : Type 1} → statement M
 all-covered-spec =
@@ -101,5 +93,5 @@ all-covered-spec =
     sample-epoch-requires
     covers-requires
     covers-requires-2
-    returns
-    returns-2)
+    both-requires
+    returns)

@@ -2,30 +2,30 @@
 use mathlib.Core.Path.{_≡_, ap, _∙_}
 use borrow.Author.Needs.{needs}
 use native.Mathlib.Omega.{arith}
-use lib.IntN.{ℤ, pos, _*ℤ_}
+use lib.IntN.{pos, _*ℤ_}
 use mir.Syntax.{w64}
 use mir.Val.{toZ, ofZ}
 use Rattle.whole.proofs.Machine.{M, var, _⊠_, ok, is}
 use Rattle.earth.specs.declared.time.Epoch.{Epoch}
 use Rattle.earth.specs.Epoch.{laterOf}
-use Rattle.earth.proofs.Floors.{in-abs}
+use Rattle.earth.proofs.Floors.{leaf}
 use Rattle.delay.specs.Sessions.{startOf, sampleEpoch}
 use Rattle.delay.proofs.Epochs.{add-in}
 use Rattle.delay.proofs.pass.sample_epoch.Statement.{statement}
 use Rattle.delay.proofs.pass.sample_epoch.Tie as tie
 
 abbrev added : tie.Start → M
-added s = var (pos (s .args .i)) 4096 (omega arith) ⊠ var (s .args .p .step) 3600000 (in-abs (s .args .p .step) (s .pre .0 .step))
+added s = var (pos (s .args .i)) 4096 (omega arith) ⊠ leaf (s .args .p .step) (s .pre .0 .step)
 
 module _ (s : tie.Start) where
   added-is : toZ w64 (ofZ w64 (toZ w64 (s .args .i) *ℤ toZ w64 (ofZ w64 (s .args .p .step)))) ≡ pos (s .args .i) *ℤ s .args .p .step
   added-is = is (added s) tt
 
   mjd-back : toZ w64 (ofZ w64 (s .args .p .mjd)) ≡ s .args .p .mjd
-  mjd-back = is (var (s .args .p .mjd) 69806 (in-abs (s .args .p .mjd) (s .pre .0 .day))) tt
+  mjd-back = is (leaf (s .args .p .mjd) (s .pre .0 .mjd)) tt
 
   ms-back : toZ w64 (ofZ w64 (s .args .p .ms)) ≡ s .args .p .ms
-  ms-back = is (var (s .args .p .ms) 86399999 (in-abs (s .args .p .ms) (s .pre .0 .ms))) tt
+  ms-back = is (leaf (s .args .p .ms) (s .pre .0 .ms)) tt
 
 cast-later : tie.Need-cast-later
 cast-later c = search needs
@@ -36,7 +36,7 @@ mul-later c = ok (added (c .before .before .before)) tt
 later-requires : tie.Need-later-requires
 later-requires c κs =
     let s = c .before .before .before in
-    (rw (mjd-back s) (s .pre .0 .day), rw (ms-back s) (s .pre .0 .ms), rw (added-is s) (add-in (s .args .p) (s .args .i) (s .pre .0) (s .pre .1)))
+    (rw (mjd-back s) (s .pre .0 .mjd), rw (ms-back s) (s .pre .0 .ms), rw (added-is s) (add-in (s .args .p) (s .args .i) (s .pre .0) (s .pre .1)))
 
 returns : tie.Need-returns
 unfolding sampleEpoch

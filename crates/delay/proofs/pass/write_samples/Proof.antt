@@ -2,7 +2,7 @@
 use mathlib.Core.Path.{_≡_, sym, ap, _∙_}
 use mathlib.Core.Bool.{true}
 use mathlib.Core.List.{List, _++_}
-use Prim.Native.Nat.{ℕ, suc, _+_, _-_, _≤_, _<_}
+use Prim.Native.Nat.{ℕ, suc, _-_, _≤_, _<_}
 use native.Mathlib.Numerals.{add-one}
 use native.Mathlib.Omega.{arith}
 use lib.ListN.{length, drop, set}
@@ -10,14 +10,15 @@ use lib.IntN.{ℤ}
 use mir.Syntax.{w64}
 use mir.Val.{toZ, ofZ}
 use Rattle.whole.proofs.Linear.{ret}
-use Rattle.session.specs.declared.Pass.{Pass}
+use Rattle.fields.specs.declared.Pass.{Pass}
 use Rattle.whole.proofs.Each.{below-each}
 use Rattle.wave.specs.declared.Sight.{Sight}
 use Rattle.whole.specs.Values.{firstValues}
 use Rattle.delay.specs.Calls.{samplesOf, allCovered}
 use Rattle.delay.specs.Keeping.{TrueKept, delayAt}
 use Rattle.delay.specs.Sessions.{covers, sampleEpoch}
-use Rattle.delay.proofs.Epochs.{samples-count, samples-read, samples-cast, mjd-small, sample-ms}
+use Rattle.delay.proofs.Covered.{first-covered}
+use Rattle.delay.proofs.Epochs.{samples-count, samples-read, samples-cast, mjd-back, sample-ms}
 use Rattle.whole.proofs.Values.{room-length, value-none, value-next}
 use Rattle.delay.proofs.pass.write_samples.Statement.{statement}
 use Rattle.delay.proofs.pass.write_samples.Tie as tie
@@ -36,7 +37,7 @@ cast-n : tie.Need-cast-n Inv-loop μ-loop
 cast-n c = let s = c .before .before .before in samples-cast (s .args .p) (s .pre .0 .1)
 
 kept-from-requires : tie.Need-kept-from-requires Inv-loop μ-loop
-kept-from-requires c κs = let s = c .before .before .before .before in (s .pre .0 .0, mjd-small (s .args .p) (s .pre .0 .1))
+kept-from-requires c κs = let s = c .before .before .before .before in (s .pre .0 .0, rw (mjd-back (s .args .p) (s .pre .0 .1)) (first-covered (s .args .s .now) (s .pre .0 .0) (s .args .p) (s .pre .0 .1) (s .pre .0 .2)))
 
 loop-holds : tie.Need-loop-holds Inv-loop μ-loop
 loop-holds c = (omega arith, value-none _ _, c .kept-from .ensures)

@@ -1,63 +1,35 @@
 -- `delay::records::covers` meets its contract.
-use mathlib.Core.Path.{_≡_, sym, ap, _∙_}
-use mathlib.Core.Bool.{true}
-use mathlib.Core.List.{List}
-use Prim.Native.Nat.{ℕ}
 use borrow.Author.Needs.{needs}
-use lib.IntN.{ℤ, pos, _+ℤ_}
-use mir.Syntax.{w64}
-use mir.Val.{toZ, ofZ}
+use lib.IntN.{pos}
 use Rattle.whole.proofs.Linear.{back}
-use Rattle.sections.specs.File.{eqZ}
-use Rattle.delay.specs.declared.records.Days.{Days}
-use Rattle.delay.specs.Keeping.{daysFrom}
-use Rattle.delay.specs.Sessions.{hasDay, covers}
-use Rattle.delay.proofs.Found.{day-told}
+use Rattle.whole.proofs.Machine.{M, lit, var, _⊞_, ok, is}
+use Rattle.delay.specs.Sessions.{covers}
 use Rattle.delay.proofs.records.covers.Statement.{statement}
 use Rattle.delay.proofs.records.covers.Tie as tie
 
-module _ (c : tie.After-days-from) where
-  abbrev start : tie.Start
-  start = c .before .before
+abbrev tomorrow : tie.Start → M
+tomorrow s = var (s .args .day) 1_000_000 (s .pre .1) ⊞ lit (pos 1)
 
-  abbrev file : List ℕ
-  file = start .args .s .now
+has-day-requires : tie.Need-has-day-requires
+has-day-requires c κs = search needs
 
-  abbrev day : ℤ
-  day = start .args .day
+add-has-day : tie.Need-add-has-day
+add-has-day c = ok (tomorrow (c .before .before)) tt
 
-  days-are : c .days-from .result ≡ daysFrom file day
-  days-are = rw (back (start .fits .day)) at (c .days-from .ensures)
+has-day-requires-2 : tie.Need-has-day-requires-2
+has-day-requires-2 c κs = search needs
 
-  today-told : eqZ (toZ w64 (ofZ w64 (c .days-from .result .today .refusal))) (pos 0) ≡ hasDay file day
-  today-told = ap (λ (d : Days). eqZ (toZ w64 (ofZ w64 (d .today .refusal))) (pos 0)) days-are ∙ day-told file day
-
-  next-told : eqZ (toZ w64 (ofZ w64 (c .days-from .result .next .refusal))) (pos 0) ≡ hasDay file (day +ℤ pos 1)
-  next-told = ap (λ (d : Days). eqZ (toZ w64 (ofZ w64 (d .next .refusal))) (pos 0)) days-are ∙ day-told file (day +ℤ pos 1)
-
-days-from-requires : tie.Need-days-from-requires
-days-from-requires c κs = search needs
-
-there-requires : tie.Need-there-requires
-there-requires c κs = search needs
-
-there-requires-2 : tie.Need-there-requires-2
-there-requires-2 c κs = search needs
-
-first-is : (c : tie.After-there) → c .there .result ≡ hasDay (file (c .before .before)) (day (c .before .before))
-first-is c = c .there .ensures ∙ today-told (c .before .before)
+both-requires : tie.Need-both-requires
+both-requires c κs = search needs
 
 returns : tie.Need-returns
 unfolding covers
 returns c =
-    let t = c .before .before in
-    let d = t .before .before .before in
-    let today : hasDay (file d) (day d) ≡ true = sym (first-is (t .before)) ∙ t .if1 .taken in
-    rw today (c .there2 .ensures ∙ next-told d)
-
-returns-2 : tie.Need-returns-2
-unfolding covers
-returns-2 c = rw (sym (first-is (c .before)) ∙ c .if1 .left) (c .if1 .left)
+    let next = c .before in
+    let today = next .before in
+    let s = today .before .before in
+    rw (c .both .ensures, rw (back (s .fits .day)) at (today .has-day .ensures), rw (is (tomorrow s) tt) at (next .has-day2 .ensures))
 
 pub covers-spec : {M : Type 1} → statement M
-covers-spec = tie.close (tie.spec days-from-requires there-requires there-requires-2 returns returns-2)
+covers-spec =
+    tie.close (tie.spec has-day-requires add-has-day has-day-requires-2 both-requires returns)

@@ -9,7 +9,7 @@ use Rattle.whole.proofs.Linear.{ret}
 use Rattle.earth.specs.TideInUT1.{tideAt, tideOf}
 use Rattle.wave.specs.Bounds.{InRecord}
 use Rattle.delay.specs.Keeping.{daysFrom}
-use Rattle.delay.proofs.Covered.{day-in, day-small, day-back, today-in, next-in, earth-by}
+use Rattle.delay.proofs.Covered.{day-in, day-back, today-in, next-in, earth-by}
 use Rattle.delay.proofs.records.earth_in.Statement.{statement}
 use Rattle.delay.proofs.records.earth_in.Tie as tie
 
@@ -23,7 +23,7 @@ module _ (s : tie.Start) where
 days-from-requires : tie.Need-days-from-requires
 days-from-requires c κs =
     let s = c .before .before in
-    (s .pre .0, rw (day-back (file s) (day s) (s .pre .0) (s .pre .1)) (day-small (file s) (day s) (s .pre .0) (s .pre .1)))
+    (s .pre .0, rw (day-back (file s) (day s) (s .pre .0) (s .pre .1)) (s .pre .1))
 
 module _ (c : tie.After-days-from) where
   abbrev start : tie.Start

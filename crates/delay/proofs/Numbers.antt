@@ -1,0 +1,73 @@
+-- The numbers of the three calls, as the code comes to them test by test. Assumes nothing.
+use mathlib.Core.Path.{_≡_, refl, _∙_}
+use mathlib.Core.Bool.{Bool, true, false}
+use mathlib.Core.List.{List, [], _∷_}
+use Prim.Native.Nat.{ℕ, zero, suc, _≤_}
+use native.Mathlib.Omega.{arith}
+use lib.Dec.{leb, ltb}
+use lib.IntN.{ℤ}
+use Rattle.whole.specs.Refusals.{unless, lowerOf, firstOf}
+use Rattle.whole.proofs.Refusals.{end, test, up-to, in-order, joined, lower-most}
+use Rattle.sections.proofs.Shapes.{today}
+use Rattle.sections.specs.File.{refusalOf, countOf}
+use Rattle.sections.proofs.Accepted.{refusal-most}
+use Rattle.session.specs.Records.{passOf}
+use Rattle.delay.specs.Calls.{epochOk, orientationNumber, askedOk, allThere, delayNumber, allCovered, samplesOf, samplesNumber}
+use Rattle.delay.specs.Sessions.{covers}
+
+-- the file's number, and 2 for arguments that are out of their ranges
+abbrev pub judgedOf : List ℕ → Bool → ℕ
+judgedOf s ok = lowerOf (refusalOf s) (unless ok 2)
+
+two-most : (ok : Bool) → unless ok 2 ≤ 4
+two-most true = omega arith
+two-most false = omega arith
+
+judged-most : (s : List ℕ) (ok : Bool) → judgedOf s ok ≤ 4
+judged-most s ok = lower-most (refusalOf s) (unless ok 2) 4 (refusal-most today s) (two-most ok)
+
+pub orientation-first : (s : List ℕ) (day ms : ℤ) → orientationNumber s day ms ≡ firstOf (judgedOf s (epochOk day ms) ∷ unless (covers s day) 6 ∷ [])
+unfolding orientationNumber
+orientation-first s day ms =
+    joined (refusalOf s) (unless (epochOk day ms) 2) (unless (covers s day) 6 ∷ [])
+    ∙ in-order (up-to (judgedOf s (epochOk day ms)) 4 (judged-most s (epochOk day ms)) (test 4 6 (covers s day) (omega arith) end))
+
+pub delay-first : (s : List ℕ) (a b r day ms : ℤ)
+    → delayNumber s a b r day ms ≡ firstOf (judgedOf s (askedOk a b r day ms) ∷ unless (allThere s a b r) 5 ∷ unless (covers s day) 6 ∷ [])
+unfolding delayNumber
+delay-first s a b r day ms =
+    let ok = askedOk a b r day ms in
+    let t = allThere s a b r in
+    let c = covers s day in
+    joined (refusalOf s) (unless ok 2) (unless t 5 ∷ unless c 6 ∷ [])
+    ∙ in-order (up-to (judgedOf s ok) 4 (judged-most s ok) (test 4 5 t (omega arith) (test 5 6 c (omega arith) end)))
+
+-- what a pass of the file has to pass
+module _ (s : List ℕ) (i n : ℕ) where
+  abbrev pub indexOk : Bool
+  indexOk = ltb i (countOf s 3)
+
+  abbrev pub namesOk : Bool
+  namesOk = allThere s (passOf s i .station1) (passOf s i .station2) (passOf s i .source)
+
+  abbrev pub daysOk : Bool
+  daysOk = allCovered s (passOf s i)
+
+  abbrev pub roomOk : Bool
+  roomOk = leb (samplesOf (passOf s i)) n
+
+  pub samples-first : samplesNumber s i n ≡ firstOf (refusalOf s ∷ unless indexOk 5 ∷ unless namesOk 5 ∷ unless daysOk 6 ∷ unless roomOk 7 ∷ [])
+  unfolding samplesNumber
+  samples-first =
+      in-order
+      (up-to (refusalOf s) 4 (refusal-most today s)
+      (test 4 5 indexOk (omega arith) (test 5 5 namesOk (omega arith) (test 5 6 daysOk (omega arith) (test 6 7 roomOk (omega arith) end)))))
+
+-- where 6 is given, the days are what failed
+pub six-fails : (f : ℕ) (i t c r : Bool) → f ≤ 4 → firstOf (f ∷ unless i 5 ∷ unless t 5 ∷ unless c 6 ∷ unless r 7 ∷ []) ≡ 6 → c ≡ false
+six-fails zero true true true true h e = absurd (omega arith)
+six-fails zero true true true false h e = absurd (omega arith)
+six-fails zero true true false r h e = refl
+six-fails zero true false c r h e = absurd (omega arith)
+six-fails zero false t c r h e = absurd (omega arith)
+six-fails (suc f) i t c r h e = absurd (omega arith)
