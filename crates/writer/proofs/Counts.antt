@@ -3,72 +3,66 @@ use mathlib.Core.Path.{_≡_, refl, sym, _∙_}
 use Prim.Native.Nat.{ℕ, zero, suc, _*_, _/_, _≤_, _<_}
 use native.Mathlib.Omega.{arith}
 use mathlib.Core.Bool.{true, false}
+use mathlib.Core.List.{List}
+use lib.ListN.{length}
+use lib.IntN.{ℤ}
 use lib.Dec.{leb, eqb}
 use borrow.Author.Tests.{eq-eqb, ne-eqb, eqb-true, le-leb, lt-leb, lt-ltb, ltb-true}
-use Rattle.sections.specs.Layouts.{layoutIn, standsIn}
-use Rattle.sections.specs.File.{between}
 use Rattle.whole.proofs.Linear.{and-true}
-use Rattle.sections.proofs.Shapes.{stands-some}
-use Rattle.writer.specs.Writing.{sizeIn, listRight, listsRight}
+use Rattle.whole.proofs.Each.{below-each}
+use Rattle.sections.specs.Layouts.{Table, layoutIn, standsIn}
+use Rattle.sections.specs.File.{between}
+use Rattle.sections.proofs.Shapes.{Good, stands-some}
+use Rattle.writer.specs.Writing.{kindAt, listAt, sizeIn, listRight, listsRight}
 use Rattle.writer.specs.declared.Kinds.{Kinds}
 
--- ---- as the code tests them
+module _ {t : Table} (g : Good t) (p k n : ℕ) where
+  -- ---- as the code tests them
 
-module _ (p k n : ℕ) where
-  pub list-none : sizeIn p k ≡ 0 → listRight p k n ≡ false
+  pub list-none : sizeIn t p k ≡ 0 → listRight t p k n ≡ false
   unfolding listRight
-  list-none h = rw (stands-some p k, h)
+  list-none h = rw (stands-some g p k, h)
 
-  module _ (a : 0 < sizeIn p k) where
-    stands : standsIn p k ≡ true
-    stands = stands-some p k ∙ lt-ltb 0 (sizeIn p k) a
+  module _ (a : 0 < sizeIn t p k) where
+    stands : standsIn t p k ≡ true
+    stands = stands-some g p k ∙ lt-ltb 0 (sizeIn t p k) a
 
-    pub list-broken : (sizeIn p k * (n / sizeIn p k) ≡ n → ⊥) → listRight p k n ≡ false
+    pub list-broken : (sizeIn t p k * (n / sizeIn t p k) ≡ n → ⊥) → listRight t p k n ≡ false
     unfolding listRight
-    list-broken h = rw (stands, ne-eqb (sizeIn p k * (n / sizeIn p k)) n h)
+    list-broken h = rw (stands, ne-eqb (sizeIn t p k * (n / sizeIn t p k)) n h)
 
-    module _ (b : sizeIn p k * (n / sizeIn p k) ≡ n) where
-      pub list-few : n / sizeIn p k < layoutIn p k .fewest → listRight p k n ≡ false
+    module _ (b : sizeIn t p k * (n / sizeIn t p k) ≡ n) where
+      pub list-few : n / sizeIn t p k < layoutIn t p k .fewest → listRight t p k n ≡ false
       unfolding listRight
-      list-few h = rw (stands, eq-eqb _ n b, lt-leb (layoutIn p k .fewest) (n / sizeIn p k) h)
+      list-few h = rw (stands, eq-eqb _ n b, lt-leb (layoutIn t p k .fewest) (n / sizeIn t p k) h)
 
-      pub list-is : layoutIn p k .fewest ≤ n / sizeIn p k → listRight p k n ≡ leb (n / sizeIn p k) (layoutIn p k .most)
+      pub list-is : layoutIn t p k .fewest ≤ n / sizeIn t p k → listRight t p k n ≡ leb (n / sizeIn t p k) (layoutIn t p k .most)
       unfolding listRight
-      list-is h = rw (stands, eq-eqb _ n b, le-leb (layoutIn p k .fewest) (n / sizeIn p k) h)
+      list-is h = rw (stands, eq-eqb _ n b, le-leb (layoutIn t p k .fewest) (n / sizeIn t p k) h)
 
 -- ---- what they say
 
-pub record List-right (p k n : ℕ) : Type 0 where
-  pub stands : standsIn p k ≡ true
-  pub size : 0 < sizeIn p k
-  pub exact : sizeIn p k * (n / sizeIn p k) ≡ n
-  pub counted : between (layoutIn p k .fewest) (layoutIn p k .most) (n / sizeIn p k) ≡ true
+pub record ListRight (t : Table) (p k n : ℕ) : Type 0 where
+  pub stands : standsIn t p k ≡ true
+  pub size : 0 < sizeIn t p k
+  pub exact : sizeIn t p k * (n / sizeIn t p k) ≡ n
+  pub counted : between (layoutIn t p k .fewest) (layoutIn t p k .most) (n / sizeIn t p k) ≡ true
 
-pub list-right : (p k n : ℕ) → listRight p k n ≡ true → List-right p k n
+pub list-right : {t : Table} (g : Good t) (p k n : ℕ) → listRight t p k n ≡ true → ListRight t p k n
 unfolding listRight
-list-right p k n h =
-    let a = and-true (standsIn p k) _ h in
-    let b = and-true (eqb (sizeIn p k * (n / sizeIn p k)) n) _ (a .1) in
+list-right {t = t} g p k n h =
+    let a = and-true (standsIn t p k) _ h in
+    let b = and-true (eqb (sizeIn t p k * (n / sizeIn t p k)) n) _ (a .1) in
     record {
       stands = a .0;
-      size = ltb-true 0 (sizeIn p k) (sym (stands-some p k) ∙ a .0);
-      exact = eqb-true (sizeIn p k * (n / sizeIn p k)) n (b .0);
+      size = ltb-true 0 (sizeIn t p k) (sym (stands-some g p k) ∙ a .0);
+      exact = eqb-true (sizeIn t p k * (n / sizeIn t p k)) n (b .0);
       counted = b .1;
     }
 
-pub record Lists-right (k : Kinds) (a b c d : ℕ) : Type 0 where
-  pub one : List-right 0 (k .first) a
-  pub two : List-right 1 (k .second) b
-  pub three : List-right 2 (k .third) c
-  pub four : List-right 3 (k .fourth) d
-
-pub lists-right : (k : Kinds) (a b c d : ℕ) → listsRight k a b c d ≡ true → Lists-right k a b c d
+pub lists-right : {t : Table} (g : Good t) (k : Kinds) (ls : List (List ℤ)) → listsRight t k ls ≡ true → (p : ℕ) → p < 4 → ListRight t p (kindAt k p) (length (listAt ls p))
 unfolding listsRight
-lists-right k a b c d h =
-    let x = and-true (listRight 0 (k .first) a) _ h in
-    let y = and-true (listRight 1 (k .second) b) _ (x .1) in
-    let z = and-true (listRight 2 (k .third) c) (listRight 3 (k .fourth) d) (y .1) in
-    record { one = list-right _ _ _ (x .0); two = list-right _ _ _ (y .0); three = list-right _ _ _ (z .0); four = list-right _ _ _ (z .1) }
+lists-right {t = t} g k ls h p l = list-right g p _ _ (below-each 4 p (λ (p : ℕ). listRight t p (kindAt k p) (length (listAt ls p))) l h)
 
 pub positive : (n : ℕ) → (n ≡ 0 → ⊥) → 0 < n
 positive zero h = absurd (h refl)

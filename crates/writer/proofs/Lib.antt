@@ -1,11 +1,11 @@
+pub mod Runs
+pub mod Rows
 pub mod Counts
 pub mod Longest
 pub mod Outcomes
-pub mod Tables
-pub mod Sections
+pub mod Made
 pub mod Again
-pub mod Back
 pub mod RoundTrips
+pub mod Calls
 pub mod Fitting
 pub mod Promises
-pub mod Made

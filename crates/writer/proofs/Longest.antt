@@ -1,10 +1,10 @@
 -- How long a file of right lists is, and how long at most, whatever the table of layouts says. Assumes nothing.
-use mathlib.Core.Path.{_≡_, refl}
-use Prim.Native.Nat.{ℕ, _+_, _*_, _/_, _≤_, max}
+use mathlib.Core.Path.{_≡_, refl, _∙_}
+use Prim.Native.Nat.{ℕ, zero, suc, _+_, _*_, _/_, _≤_, _<_, max}
 use native.Mathlib.Omega.{arith}
 use mathlib.Core.Bool.{Bool, true, false, cond}
-use mathlib.Core.List.{List, [], _∷_, _++_}
-use lib.ListN.{length, getD, length-append, length-map}
+use mathlib.Core.List.{List, [], _∷_}
+use lib.ListN.{length, length-append, length-map}
 use lib.IntN.{ℤ}
 use lib.Dec.{leb, eqb}
 use mir.Syntax.{w64}
@@ -12,12 +12,37 @@ use mir.Val.{ofZ}
 use borrow.Author.Tests.{leb-true}
 use Rattle.whole.proofs.Linear.{and-true}
 use Rattle.whole.proofs.Products.{below}
-use Rattle.sections.specs.Layouts.{Layout, places, station, source, orientation, pass, noLayout, ofKind, layoutIn}
-use Rattle.writer.specs.declared.Kinds.{Kinds}
 use Rattle.text.specs.Bytes.{wordsOf}
-use Rattle.writer.specs.Writing.{sizeIn, listsRight, contentsFor, fileWords, fileOf}
 use Rattle.text.proofs.All.{all-long}
-use Rattle.writer.proofs.Counts.{List-right, lists-right}
+use Rattle.sections.specs.Layouts.{Layout, Table, places, noLayout, ofKind, layoutsIn, layoutIn}
+use Rattle.sections.proofs.Shapes.{today}
+use Rattle.writer.specs.declared.Kinds.{Kinds}
+use Rattle.writer.specs.Writing.{joined, kindAt, listAt, startFor, sizeIn, listsRight, contentsFor, fileWords, fileOf}
+use Rattle.writer.proofs.Counts.{ListRight, lists-right}
+
+-- ---- the file's length
+
+-- the bodies before place p, in words
+abbrev pub bodies : List (List ℤ) → ℕ → List ℕ
+bodies ls p = joined p (λ (q : ℕ). wordsOf (listAt ls q))
+
+pub start-is : (ls : List (List ℤ)) (p : ℕ) → startFor ls p ≡ 8 * (13 + length (bodies ls p))
+unfolding startFor joined
+start-is ls zero = refl
+start-is ls (suc p) = omega (arith, start-is ls p, length-append (bodies ls p) (wordsOf (listAt ls p)), length-map (listAt ls p) (ofZ w64))
+
+module _ (t : Table) (k : Kinds) (ls : List (List ℤ)) where
+  pub contents-long : length (contentsFor t k ls) ≡ 13
+  unfolding contentsFor joined
+  contents-long = refl
+
+  pub words-long : 8 * length (fileWords t k ls) ≡ startFor ls 4
+  unfolding fileWords
+  words-long = omega (arith, length-append (contentsFor t k ls) (bodies ls 4), contents-long, start-is ls 4)
+
+  pub made-long : length (fileOf t k ls) ≡ startFor ls 4
+  unfolding fileOf
+  made-long = all-long (fileWords t k ls) ∙ words-long
 
 -- ---- the most numbers that a place holds
 
@@ -29,8 +54,8 @@ abbrev mostOf : List Layout → ℕ
 mostOf [] = 0
 mostOf (l ∷ ls) = max (mostBy l) (mostOf ls)
 
-mostIn : ℕ → ℕ
-mostIn p = mostOf (getD places p [])
+mostIn : Table → ℕ → ℕ
+mostIn t p = mostOf (layoutsIn t p)
 
 pick : (c : Bool) (l m : Layout) (n : ℕ) → mostBy m ≤ n → mostBy (cond c l m) ≤ max (mostBy l) n
 pick true l m n h = omega arith
@@ -41,37 +66,27 @@ unfolding noLayout
 of-kind [] k = omega arith
 of-kind (l ∷ ls) k = pick (eqb k (l .kind)) l (ofKind ls k) (mostOf ls) (of-kind ls k)
 
-in-place : (p k : ℕ) → mostBy (layoutIn p k) ≤ mostIn p
+in-place : (t : Table) (p k : ℕ) → mostBy (layoutIn t p k) ≤ mostIn t p
 unfolding layoutIn mostIn
-in-place p k = of-kind (getD places p []) k
+in-place t p k = of-kind (layoutsIn t p) k
 
-list-most : (p k n : ℕ) → List-right p k n → n ≤ mostIn p
-list-most p k n w =
-    let c : n / sizeIn p k ≤ layoutIn p k .most = leb-true _ _ (and-true (leb (layoutIn p k .fewest) (n / sizeIn p k)) _ (w .counted) .1) in
-    omega (arith, w .exact, below (sizeIn p k) (layoutIn p k .most) {a = sizeIn p k} {b = n / sizeIn p k} (omega arith) c, in-place p k)
+list-most : (t : Table) (p k n : ℕ) → ListRight t p k n → n ≤ mostIn t p
+list-most t p k n w =
+    let c : n / sizeIn t p k ≤ layoutIn t p k .most = leb-true _ _ (and-true (leb (layoutIn t p k .fewest) (n / sizeIn t p k)) _ (w .counted) .1) in
+    omega (arith, w .exact, below (sizeIn t p k) (layoutIn t p k .most) {a = sizeIn t p k} {b = n / sizeIn t p k} (omega arith) c, in-place t p k)
 
 -- ---- the contents table and the fullest places, computed from the table of layouts
 
-fullest : 8 * (13 + mostIn 0 + mostIn 1 + mostIn 2 + mostIn 3) ≡ 14952
-unfolding mostIn places station source orientation pass
+fullest : 8 * (13 + mostIn places 0 + mostIn places 1 + mostIn places 2 + mostIn places 3) ≡ 14_952
+unfolding mostIn places
 fullest = refl
 
-pub lists-short : (k : Kinds) (a b c d : ℕ) → listsRight k a b c d ≡ true → 8 * (13 + a + b + c + d) ≤ 14952
-lists-short k a b c d h =
-    let w = lists-right k a b c d h in
-    omega (arith, fullest, list-most _ _ _ (w .one), list-most _ _ _ (w .two), list-most _ _ _ (w .three), list-most _ _ _ (w .four))
+module _ (k : Kinds) (ls : List (List ℤ)) (h : listsRight places k ls ≡ true) where
+  pub lists-short : startFor ls 4 ≤ 14_952
+  unfolding startFor
+  lists-short =
+      let m : (p : ℕ) → p < 4 → length (listAt ls p) ≤ mostIn places p = λ p l. list-most places p (kindAt k p) _ (lists-right today k ls h p l) in
+      omega (arith, fullest, m 0 (omega arith), m 1 (omega arith), m 2 (omega arith), m 3 (omega arith))
 
--- ---- the file
-
-module _ (k : Kinds) (p q r t : List ℤ) where
-  words-long : length (fileWords k p q r t) ≡ 13 + length p + length q + length r + length t
-  unfolding fileWords contentsFor
-  words-long =
-      omega (arith, length-map p (ofZ w64), length-map q (ofZ w64), length-map r (ofZ w64), length-map t (ofZ w64), length-append (wordsOf r) (wordsOf t), length-append (wordsOf q) (wordsOf r ++ wordsOf t), length-append (wordsOf p) (wordsOf q ++ (wordsOf r ++ wordsOf t)))
-
-  pub made-long : length (fileOf k p q r t) ≡ 8 * (13 + length p + length q + length r + length t)
-  unfolding fileOf
-  made-long = omega (arith, all-long (fileWords k p q r t), words-long)
-
-  pub made-short : listsRight k (length p) (length q) (length r) (length t) ≡ true → length (fileOf k p q r t) ≤ 14952
-  made-short h = omega (arith, made-long, lists-short k _ _ _ _ h)
+  pub made-short : length (fileOf places k ls) ≤ 14_952
+  made-short = omega (arith, made-long places k ls, lists-short)

@@ -1,28 +1,33 @@
--- The numbers of the records that the calls station_at, source_at, day_at and pass_at hand out, record after record.
-use Prim.Native.Nat.{ℕ, zero, suc}
-use mathlib.Core.List.{List, [], _∷_, _++_}
+-- The numbers of a file's records, record after record: those that stand in a place, and those that the calls station_at, source_at, day_at and pass_at hand out.
+use Prim.Native.Nat.{ℕ}
+use mathlib.Core.List.{List, [], _∷_}
 use lib.IntN.{ℤ, natAbs}
+use Rattle.whole.specs.Values.{firstValues}
+use Rattle.sections.specs.Layouts.{Table}
+use Rattle.sections.specs.File.{countOf, sizeOf, fieldAt}
 use Rattle.session.specs.Records.{checkOf, stationAt, sourceAt, dayAt, passAt}
-use Rattle.session.specs.declared.Station.{Station}
-use Rattle.session.specs.declared.Source.{Source}
-use Rattle.session.specs.declared.Day.{Day}
-use Rattle.session.specs.declared.Pass.{Pass}
+use Rattle.session.specs.declared.StationAnswer.{StationAnswer}
+use Rattle.session.specs.declared.SourceAnswer.{SourceAnswer}
+use Rattle.session.specs.declared.DayAnswer.{DayAnswer}
+use Rattle.session.specs.declared.PassAnswer.{PassAnswer}
+use Rattle.writer.specs.Writing.{joined}
 
--- the lists f 0 to f (n - 1), one after the other
-unfoldable pub joined : ℕ → (ℕ → List ℤ) → List ℤ
-joined zero f = []
-joined (suc n) f = joined n f ++ f n
+-- the records of place p, of any kind: as many numbers of each as its kind has
+unfoldable pub rowsIn : Table → List ℕ → ℕ → List ℤ
+rowsIn t s p = joined (countOf s p) (λ (i : ℕ). firstValues (sizeOf t s p) (fieldAt t s p i))
 
-abbrev pub ofStation : Station → List ℤ
+-- ---- what the calls hand out
+
+abbrev pub ofStation : StationAnswer → List ℤ
 ofStation r = r .id ∷ r .x ∷ r .y ∷ r .z ∷ []
 
-abbrev pub ofSource : Source → List ℤ
+abbrev pub ofSource : SourceAnswer → List ℤ
 ofSource r = r .id ∷ r .«right_ascension» ∷ r .declination ∷ []
 
-abbrev pub ofDay : Day → List ℤ
+abbrev pub ofDay : DayAnswer → List ℤ
 ofDay r = r .mjd ∷ r .x ∷ r .y ∷ r .«ut1_utc» ∷ r .«tai_utc» ∷ []
 
-abbrev pub ofPass : Pass → List ℤ
+abbrev pub ofPass : PassAnswer → List ℤ
 ofPass r = r .station1 ∷ r .station2 ∷ r .source ∷ r .mjd ∷ r .ms ∷ r .step ∷ r .samples ∷ r .tolerance ∷ []
 
 -- all records of a section, as many as `check` counts

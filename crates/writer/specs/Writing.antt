@@ -1,69 +1,86 @@
--- Document 01, 'Session file' and 'Refusal numbers': the file of four lists of numbers, record after record, and when the writer refuses.
--- The writer is told the kind that stands in each place.
+-- Document 01, 'Session file' and 'Refusal numbers': the file of four lists of numbers, one for each place, record after record, and when the writer refuses.
+-- The writer is told the kind that each place is to have; a table t says what may stand there.
 use Prim.Native.Nat.{ℕ, zero, suc, _+_, _*_, _/_}
 use mathlib.Core.Bool.{Bool, _&&_, cond}
 use mathlib.Core.List.{List, [], _∷_, _++_}
-use lib.ListN.{length}
+use lib.ListN.{length, getD}
 use lib.IntN.{ℤ, pos}
 use lib.Dec.{leb, eqb}
-use Rattle.sections.specs.Layouts.{layoutIn, standsIn}
-use Rattle.sections.specs.File.{refusalOf, between}
-use Rattle.text.specs.Bytes.{bytesOfAll, wordsOf, pasted}
-use Rattle.whole.specs.declared.Number.{Number}
+use Rattle.whole.specs.Each.{allBelow}
+use Rattle.whole.specs.Refusals.{unless, lowest}
 use Rattle.whole.specs.Answers.{answerBy}
+use Rattle.whole.specs.declared.Number.{Number}
+use Rattle.text.specs.Bytes.{bytesOfAll, wordsOf, pasted}
+use Rattle.sections.specs.Layouts.{Table, layoutIn, standsIn, places}
+use Rattle.sections.specs.File.{between, refusalBy}
 use Rattle.writer.specs.declared.Kinds.{Kinds}
 
--- how many numbers a record of kind k in place p has
-abbrev pub sizeIn : ℕ → ℕ → ℕ
-sizeIn p k = length (layoutIn p k .fields)
+-- the kind and the list of place p
+abbrev pub kindAt : Kinds → ℕ → ℕ
+kindAt k p = getD (k .first ∷ k .second ∷ k .third ∷ k .fourth ∷ []) p 0
 
--- n numbers are a right count of whole records of kind k in place p
-unfoldable pub listRight : ℕ → ℕ → ℕ → Bool
-listRight p k n =
-    standsIn p k && (eqb (sizeIn p k * (n / sizeIn p k)) n && between (layoutIn p k .fewest) (layoutIn p k .most) (n / sizeIn p k))
+abbrev pub listAt : List (List ℤ) → ℕ → List ℤ
+listAt ls p = getD ls p []
 
-unfoldable pub listsRight : Kinds → ℕ → ℕ → ℕ → ℕ → Bool
-listsRight k a b c d = listRight 0 (k .first) a && (listRight 1 (k .second) b && (listRight 2 (k .third) c && listRight 3 (k .fourth) d))
+-- the lists f 0 to f (n - 1), one after the other
+unfoldable pub joined : {A : Type 0} → ℕ → (ℕ → List A) → List A
+joined zero f = []
+joined (suc n) f = joined n f ++ f n
 
--- the contents table: number of sections; kind, first byte and record count of each place
-unfoldable pub contentsFor : Kinds → ℕ → ℕ → ℕ → ℕ → List ℕ
-contentsFor k a b c d =
-    4 ∷ k .first ∷ 104 ∷ (a / sizeIn 0 (k .first)) ∷ k .second ∷ (104 + 8 * a) ∷ (b / sizeIn 1 (k .second)) ∷ k .third ∷ (104 + 8 * a + 8 * b)
-    ∷ (c / sizeIn 2 (k .third)) ∷ k .fourth ∷ (104 + 8 * a + 8 * b + 8 * c) ∷ (d / sizeIn 3 (k .fourth)) ∷ []
+-- where the body of place p starts: behind the contents table, and behind the lists before it
+unfoldable pub startFor : List (List ℤ) → ℕ → ℕ
+startFor ls zero = 104
+startFor ls (suc p) = startFor ls p + 8 * length (listAt ls p)
 
--- then the bodies, without gaps
-unfoldable pub fileWords : Kinds → List ℤ → List ℤ → List ℤ → List ℤ → List ℕ
-fileWords k p q r t = contentsFor k (length p) (length q) (length r) (length t) ++ (wordsOf p ++ (wordsOf q ++ (wordsOf r ++ wordsOf t)))
+module _ (t : Table) where
+  -- how many numbers a record of kind k in place p has
+  abbrev pub sizeIn : ℕ → ℕ → ℕ
+  sizeIn p k = length (layoutIn t p k .fields)
 
-unfoldable pub fileOf : Kinds → List ℤ → List ℤ → List ℤ → List ℤ → List ℕ
-fileOf k p q r t = bytesOfAll (fileWords k p q r t)
+  -- n numbers are a right count of whole records of kind k in place p
+  unfoldable pub listRight : ℕ → ℕ → ℕ → Bool
+  listRight p k n =
+      standsIn t p k && (eqb (sizeIn p k * (n / sizeIn p k)) n && between (layoutIn t p k .fewest) (layoutIn t p k .most) (n / sizeIn p k))
 
--- ---- the refusal, the lowest that applies: 1 counts, 2, 3 and 4 as the reader has them, 7 room too short
+  module _ (k : Kinds) (ls : List (List ℤ)) where
+    unfoldable pub listsRight : Bool
+    listsRight = allBelow 4 (λ (p : ℕ). listRight p (kindAt k p) (length (listAt ls p)))
 
--- x, or y where x is 0
-abbrev pub orElse : ℕ → ℕ → ℕ
-orElse zero y = y
-orElse (suc x) y = suc x
+    -- of place p the kind, the first byte and the record count
+    abbrev pub entryFor : ℕ → List ℕ
+    entryFor p = kindAt k p ∷ startFor ls p ∷ (length (listAt ls p) / sizeIn p (kindAt k p)) ∷ []
 
-unfoldable pub writeRefusal : Kinds → List ℤ → List ℤ → List ℤ → List ℤ → ℕ → ℕ
-writeRefusal k p q r t room =
-    cond (listsRight k (length p) (length q) (length r) (length t))
-    (orElse (refusalOf (fileOf k p q r t)) (cond (leb (length (fileOf k p q r t)) room) 0 7)) 1
+    -- the contents table: the number of sections, then each place's entry
+    unfoldable pub contentsFor : List ℕ
+    contentsFor = 4 ∷ joined 4 entryFor
 
--- the answer: 0 and the number of bytes written, or the refusal and 0
-unfoldable pub writtenAs : Kinds → List ℤ → List ℤ → List ℤ → List ℤ → ℕ → Number
-writtenAs k p q r t room = answerBy (writeRefusal k p q r t room) (pos (length (fileOf k p q r t)))
+    -- then the bodies, without gaps
+    unfoldable pub fileWords : List ℕ
+    fileWords = contentsFor ++ joined 4 (λ (p : ℕ). wordsOf (listAt ls p))
 
--- the room after the call: the file from its start, the rest untouched; refused, every byte stays
-unfoldable pub roomAs : Kinds → List ℤ → List ℤ → List ℤ → List ℤ → List ℕ → List ℕ
-roomAs k p q r t room = cond (eqb (writeRefusal k p q r t (length room)) 0) (pasted room 0 (fileOf k p q r t)) room
+    unfoldable pub fileOf : List ℕ
+    fileOf = bytesOfAll fileWords
 
--- the kinds that `write` gives the four places
+    -- ---- the refusal, the lowest that applies: 1 where the lists are not right, the number that the reader gives the file, 7 where the room is too short
+
+    unfoldable pub writeRefusal : ℕ → ℕ
+    writeRefusal room = lowest (unless listsRight 1 ∷ refusalBy t fileOf ∷ unless (leb (length fileOf) room) 7 ∷ [])
+
+    -- the answer: 0 and the number of bytes written, or the refusal and 0
+    unfoldable pub writtenAs : ℕ → Number
+    writtenAs room = answerBy (writeRefusal room) (pos (length fileOf))
+
+    -- the room after the call: the file from its start, the rest untouched; refused, every byte stays
+    unfoldable pub roomAs : List ℕ → List ℕ
+    roomAs room = cond (eqb (writeRefusal (length room)) 0) (pasted room 0 fileOf) room
+
+-- ---- `write`: today's table, and the kinds that it gives the four places
+
 abbrev pub kinds : Kinds
 kinds = record { first = 1; second = 2; third = 3; fourth = 4 }
 
 abbrev pub writtenOf : List ℤ → List ℤ → List ℤ → List ℤ → List ℕ → Number
-writtenOf p q r t room = writtenAs kinds p q r t (length room)
+writtenOf p q r t room = writtenAs places kinds (p ∷ q ∷ r ∷ t ∷ []) (length room)
 
 abbrev pub roomAfter : List ℤ → List ℤ → List ℤ → List ℤ → List ℕ → List ℕ
-roomAfter p q r t room = roomAs kinds p q r t room
+roomAfter p q r t room = roomAs places kinds (p ∷ q ∷ r ∷ t ∷ []) room

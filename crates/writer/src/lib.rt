@@ -1,11 +1,13 @@
 // The session file, written. Document 01, 'Session file'.
 ghost use mathlib.Core.Path.{_≡_};
 ghost use mathlib.Core.Bool.{true};
-ghost use Prim.Native.Nat.{_<_, _≤_};
+ghost use mathlib.Core.List.{[], _∷_};
+ghost use Prim.Native.Nat.{_+_, _*_, _≤_};
 ghost use lib.ListN.{length};
-ghost use Rattle.whole.specs.Answers.{noNumber};
-ghost use Rattle.text.specs.Bytes.{pasted};
-ghost use Rattle.writer.specs.Writing.{listsRight, fileOf};
+ghost use Rattle.text.specs.Bytes.{pasted, wordsOf, bytesOfAll};
+ghost use Rattle.text.specs.Put.{Put};
+ghost use Rattle.sections.specs.Layouts.{places};
+ghost use Rattle.writer.specs.Writing.{listsRight, fileOf, writeRefusal};
 ghost use Rattle.writer.specs.Promises.{WritePromise, WriteAsPromise};
 
 mod lists;
@@ -27,38 +29,49 @@ pub struct Kinds {
     pub fourth: usize,
 }
 
+// The numbers of one list, from at on; the place behind them.
+fn put_list(d: &mut [u8], at: usize, zs: &[i64]) -> usize
+    requires { ⌜ at + 8 * length (now zs) ≤ length (now d) ⌝ }
+    ensures { λ n. ⌜ (n ≡ at + 8 * length (now (zs .entry))) × (now (d .exit) ≡ pasted (now (d .entry)) at (bytesOfAll (wordsOf (now (zs .entry))))) ⌝ }
+{
+    put_numbers(d, at, zs);
+    at + 8 * zs.len()
+}
+
 // The file of the four lists, at the start of d; its length.
 fn encode(d: &mut [u8], k: Kinds, p: &[i64], q: &[i64], r: &[i64], t: &[i64]) -> usize
-    requires { ⌜ (listsRight k (length (now p)) (length (now q)) (length (now r)) (length (now t)) ≡ true)
-        × (length (fileOf k (now p) (now q) (now r) (now t)) ≤ length (now d)) ⌝ }
-    ensures { λ n. ⌜ (n ≡ length (fileOf k (now (p .entry)) (now (q .entry)) (now (r .entry)) (now (t .entry))))
-        × (now (d .exit) ≡ pasted (now (d .entry)) 0 (fileOf k (now (p .entry)) (now (q .entry)) (now (r .entry)) (now (t .entry)))) ⌝ }
+    requires { ⌜ (listsRight places k (now p ∷ now q ∷ now r ∷ now t ∷ []) ≡ true) × (length (fileOf places k (now p ∷ now q ∷ now r ∷ now t ∷ [])) ≤ length (now d)) ⌝ }
+    ensures { λ n. ⌜ Put (now (d .entry)) 0 (fileOf places k (now (p .entry) ∷ now (q .entry) ∷ now (r .entry) ∷ now (t .entry) ∷ [])) (now (d .exit)) n ⌝ }
 {
-    let h = contents_for(k, p.len(), q.len(), r.len(), t.len());
+    let h = contents_for(k, p, q, r, t);
     put_words(d, 0, &h);
-    put_numbers(d, 104, p);
-    let s2 = 104 + 8 * p.len();
-    put_numbers(d, s2, q);
-    let s3 = s2 + 8 * q.len();
-    put_numbers(d, s3, r);
-    let s4 = s3 + 8 * r.len();
-    put_numbers(d, s4, t);
-    s4 + 8 * t.len()
+    let s2 = put_list(d, 104, p);
+    let s3 = put_list(d, s2, q);
+    let s4 = put_list(d, s3, r);
+    put_list(d, s4, t)
 }
 
-// A refusal, and 0 for the bytes written.
-fn refused(refusal: usize) -> Number
-    requires { ⌜ refusal < 9223372036854775808 ⌝ }
-    ensures { λ w. ⌜ w ≡ noNumber refusal ⌝ }
+// The number of a call of these lists for a room of so many bytes; 0 where it is not refused.
+// The file is made apart, in the most bytes that a file can have, and judged by the reader's own tests.
+fn judged(k: Kinds, p: &[i64], q: &[i64], r: &[i64], t: &[i64], room: usize) -> usize
+    ensures { λ n. ⌜ (n ≡ writeRefusal places k (now (p .entry) ∷ now (q .entry) ∷ now (r .entry) ∷ now (t .entry) ∷ []) room) × (n ≤ 7) ⌝ }
 {
-    Number {
-        refusal: number(refusal),
-        value: 0,
+    if !lists_right(k, p, q, r, t) {
+        return 1;
     }
+    let mut file = [0u8; 14_952];
+    let n = encode(&mut file, k, p, q, r, t);
+    let by_reader = refusal_of(&file[..n]);
+    if by_reader != 0 {
+        return by_reader;
+    }
+    if room < n {
+        return 7;
+    }
+    0
 }
 
-// The file of four lists, each place with the kind that it is to have, written to the start of room.
-// It is made apart first, in the most bytes that a file can have, and judged by the reader's own tests: a refused call stores nothing in room.
+// The file of four lists, each place with the kind that it is to have, written to the start of room: a refused call stores nothing there.
 pub fn write_as(
     k: Kinds,
     stations: &[i64],
@@ -69,19 +82,14 @@ pub fn write_as(
 ) -> Number
     ensures { λ w. ⌜ WriteAsPromise k (now (stations .entry)) (now (sources .entry)) (now (days .entry)) (now (passes .entry)) (now (room .entry)) w (now (room .exit)) ⌝ }
 {
-    if !lists_right(k, stations.len(), sources.len(), days.len(), passes.len()) {
-        return refused(1);
-    }
-    let mut file = [0u8; 14952];
-    let n = encode(&mut file, k, stations, sources, days, passes);
-    let refusal = refusal_of(&file[..n]);
+    let refusal = judged(k, stations, sources, days, passes, room.len());
     if refusal != 0 {
-        return refused(refusal);
+        return Number {
+            refusal: number(refusal),
+            value: 0,
+        };
     }
-    if room.len() < n {
-        return refused(7);
-    }
-    encode(room, k, stations, sources, days, passes);
+    let n = encode(room, k, stations, sources, days, passes);
     Number {
         refusal: 0,
         value: number(n),

@@ -1,7 +1,9 @@
 // The four lists of numbers: whether they are right counts of whole records, and the contents table that they have.
 ghost use mathlib.Core.Path.{_≡_};
 ghost use mathlib.Core.Bool.{true};
+ghost use mathlib.Core.List.{[], _∷_};
 ghost use Prim.Native.Nat.{_/_, _<_};
+ghost use Rattle.sections.specs.Layouts.{places};
 ghost use Rattle.writer.specs.Writing.{sizeIn, listRight, listsRight, contentsFor};
 use crate::Kinds;
 use sections::layouts::layout_in;
@@ -9,7 +11,7 @@ use sections::layouts::layout_in;
 // Whether n numbers are a right count of whole records of a kind in a place.
 fn list_right(place: usize, kind: usize, n: usize) -> bool
     requires { ⌜ place < 4 ⌝ }
-    ensures { λ r. ⌜ r ≡ listRight place kind n ⌝ }
+    ensures { λ r. ⌜ r ≡ listRight places place kind n ⌝ }
 {
     let l = layout_in(place, kind);
     let size = l.size;
@@ -26,42 +28,42 @@ fn list_right(place: usize, kind: usize, n: usize) -> bool
     count <= l.most
 }
 
-pub fn lists_right(k: Kinds, a: usize, b: usize, c: usize, d: usize) -> bool
-    ensures { λ r. ⌜ r ≡ listsRight k a b c d ⌝ }
+pub fn lists_right(k: Kinds, p: &[i64], q: &[i64], r: &[i64], t: &[i64]) -> bool
+    ensures { λ b. ⌜ b ≡ listsRight places k (now (p .entry) ∷ now (q .entry) ∷ now (r .entry) ∷ now (t .entry) ∷ []) ⌝ }
 {
-    if !list_right(0, k.first, a) {
+    if !list_right(0, k.first, p.len()) {
         return false;
     }
-    if !list_right(1, k.second, b) {
+    if !list_right(1, k.second, q.len()) {
         return false;
     }
-    if !list_right(2, k.third, c) {
+    if !list_right(2, k.third, r.len()) {
         return false;
     }
-    list_right(3, k.fourth, d)
+    list_right(3, k.fourth, t.len())
 }
 
 // How many records n numbers are.
 fn count_in(place: usize, kind: usize, n: usize) -> u64
-    requires { ⌜ (place < 4) × (0 < sizeIn place kind) ⌝ }
-    ensures { λ r. ⌜ r ≡ n / sizeIn place kind ⌝ }
+    requires { ⌜ (place < 4) × (0 < sizeIn places place kind) ⌝ }
+    ensures { λ r. ⌜ r ≡ n / sizeIn places place kind ⌝ }
 {
     let l = layout_in(place, kind);
     (n / l.size) as u64
 }
 
-// The contents table of a file of these lists' lengths.
-pub fn contents_for(k: Kinds, a: usize, b: usize, c: usize, d: usize) -> [u64; 13]
-    requires { ⌜ listsRight k a b c d ≡ true ⌝ }
-    ensures { λ r. ⌜ r ≡ contentsFor k a b c d ⌝ }
+// The contents table of a file of these lists.
+pub fn contents_for(k: Kinds, p: &[i64], q: &[i64], r: &[i64], t: &[i64]) -> [u64; 13]
+    requires { ⌜ listsRight places k (now p ∷ now q ∷ now r ∷ now t ∷ []) ≡ true ⌝ }
+    ensures { λ h. ⌜ h ≡ contentsFor places k (now (p .entry) ∷ now (q .entry) ∷ now (r .entry) ∷ now (t .entry) ∷ []) ⌝ }
 {
-    let n1 = count_in(0, k.first, a);
-    let n2 = count_in(1, k.second, b);
-    let n3 = count_in(2, k.third, c);
-    let n4 = count_in(3, k.fourth, d);
-    let s2 = 104 + 8 * a;
-    let s3 = s2 + 8 * b;
-    let s4 = s3 + 8 * c;
+    let n1 = count_in(0, k.first, p.len());
+    let n2 = count_in(1, k.second, q.len());
+    let n3 = count_in(2, k.third, r.len());
+    let n4 = count_in(3, k.fourth, t.len());
+    let s2 = 104 + 8 * p.len();
+    let s3 = s2 + 8 * q.len();
+    let s4 = s3 + 8 * r.len();
     [
         4,
         k.first as u64,

@@ -1,15 +1,15 @@
-use Rattle.writer.specs.Writing.{fileOf, fileWords, contentsFor}
-use Rattle.text.specs.Bytes.{bytesOfAll, wordsOf, pasted}
-use Rattle.text.proofs.Paste.{more}
-use Rattle.text.proofs.All.{all-long}
-use Rattle.writer.proofs.Longest.{made-long}
 use native.Mathlib.Omega.{arith}
-use Prim.Native.Nat.{ℕ}
 use mathlib.Core.Path.{_≡_, ap, _∙_}
-use mathlib.Core.List.{List, _++_, append-assoc}
+use mathlib.Core.List.{List, [], _∷_, _++_, append-assoc}
+use Prim.Native.Nat.{ℕ}
 use lib.ListN.{length, length-append, length-map}
 use mir.Syntax.{w64}
 use mir.Val.{ofZ}
+use Rattle.text.specs.Bytes.{bytesOfAll, wordsOf, pasted}
+use Rattle.text.proofs.Paste.{more}
+use Rattle.sections.specs.Layouts.{places}
+use Rattle.writer.specs.Writing.{startFor, joined, contentsFor, fileWords, fileOf}
+use Rattle.writer.proofs.Longest.{contents-long, made-long}
 use borrow.Author.Needs.{needs}
 use Rattle.writer.proofs.encode.Statement.{statement}
 use Rattle.writer.proofs.encode.Tie as tie
@@ -21,77 +21,79 @@ slice-aggregate-put-words : tie.Need-slice-aggregate-put-words
 slice-aggregate-put-words c = search needs
 
 put-words-requires : tie.Need-put-words-requires
-unfolding contentsFor
-put-words-requires c κs = let st = c .before .before .before .before in omega (arith, ap length (c .before .before .contents-for .ensures), st .pre .1, made-long (st .args .k) (st .args .p .now) (st .args .q .now) (st .args .r .now) (st .args .t .now))
+unfolding startFor
+put-words-requires c κs =
+    let st = c .before .before .before .before in
+    let a = st .args in
+    let ls = a .p .now ∷ a .q .now ∷ a .r .now ∷ a .t .now ∷ [] in
+    omega (arith, ap length (c .before .before .contents-for .ensures), contents-long places (a .k) ls, st .pre .1, made-long places (a .k) ls)
 
-put-numbers-requires : tie.Need-put-numbers-requires
-put-numbers-requires c κs = let st = c .before .before .before .before .before .before .before .before in omega (arith, st .pre .1, made-long (st .args .k) (st .args .p .now) (st .args .q .now) (st .args .r .now) (st .args .t .now))
+put-list-requires : tie.Need-put-list-requires
+unfolding startFor
+put-list-requires c κs =
+    let st = c .before .before .before .before .before .before .before .before in
+    let a = st .args in
+    omega (arith, st .pre .1, made-long places (a .k) (a .p .now ∷ a .q .now ∷ a .r .now ∷ a .t .now ∷ []))
 
-mul-s2 : tie.Need-mul-s2
-mul-s2 c = search needs
+put-list-requires-2 : tie.Need-put-list-requires-2
+unfolding startFor
+put-list-requires-2 c κs =
+    let st = c .before .before .before .before .before .before .before .before .before .before .before .before in
+    let a = st .args in
+    omega (arith, st .pre .1, made-long places (a .k) (a .p .now ∷ a .q .now ∷ a .r .now ∷ a .t .now ∷ []))
 
-add-s2 : tie.Need-add-s2
-add-s2 c = search needs
+put-list-requires-3 : tie.Need-put-list-requires-3
+unfolding startFor
+put-list-requires-3 c κs =
+    let st = c .before .before .before .before .before .before .before .before .before .before .before .before .before .before .before .before in
+    let a = st .args in
+    omega (arith, st .pre .1, made-long places (a .k) (a .p .now ∷ a .q .now ∷ a .r .now ∷ a .t .now ∷ []))
 
-put-numbers-requires-2 : tie.Need-put-numbers-requires-2
-put-numbers-requires-2 c κs = let st = c .before .before .before .before .before .before .before .before .before .before .before .before in omega (arith, st .pre .1, made-long (st .args .k) (st .args .p .now) (st .args .q .now) (st .args .r .now) (st .args .t .now))
-
-mul-s3 : tie.Need-mul-s3
-mul-s3 c = search needs
-
-add-s3 : tie.Need-add-s3
-add-s3 c = let st = c .before .before .before .before .before .before .before .before .before .before .before .before .before .before .before in omega (arith, st .pre .1, made-long (st .args .k) (st .args .p .now) (st .args .q .now) (st .args .r .now) (st .args .t .now))
-
-put-numbers-requires-3 : tie.Need-put-numbers-requires-3
-put-numbers-requires-3 c κs = let st = c .before .before .before .before .before .before .before .before .before .before .before .before .before .before .before .before in omega (arith, st .pre .1, made-long (st .args .k) (st .args .p .now) (st .args .q .now) (st .args .r .now) (st .args .t .now))
-
-mul-s4 : tie.Need-mul-s4
-mul-s4 c = search needs
-
-add-s4 : tie.Need-add-s4
-add-s4 c = let st = c .before .before .before .before .before .before .before .before .before .before .before .before .before .before .before .before .before .before .before in omega (arith, st .pre .1, made-long (st .args .k) (st .args .p .now) (st .args .q .now) (st .args .r .now) (st .args .t .now))
-
-put-numbers-requires-4 : tie.Need-put-numbers-requires-4
-put-numbers-requires-4 c κs = let st = c .before .before .before .before .before .before .before .before .before .before .before .before .before .before .before .before .before .before .before .before in omega (arith, st .pre .1, made-long (st .args .k) (st .args .p .now) (st .args .q .now) (st .args .r .now) (st .args .t .now))
-
-mul-result : tie.Need-mul-result
-mul-result c = let st = c .before .before .before .before .before .before .before .before .before .before .before .before .before .before .before .before .before .before .before .before .before .before .before in omega (arith, st .pre .1, made-long (st .args .k) (st .args .p .now) (st .args .q .now) (st .args .r .now) (st .args .t .now))
-
-add-result : tie.Need-add-result
-add-result c = let st = c .before .before .before .before .before .before .before .before .before .before .before .before .before .before .before .before .before .before .before .before .before .before .before in omega (arith, st .pre .1, made-long (st .args .k) (st .args .p .now) (st .args .q .now) (st .args .r .now) (st .args .t .now))
+put-list-requires-4 : tie.Need-put-list-requires-4
+unfolding startFor
+put-list-requires-4 c κs =
+    let st = c .before .before .before .before .before .before .before .before .before .before .before .before .before .before .before .before .before .before .before .before in
+    let a = st .args in
+    omega (arith, st .pre .1, made-long places (a .k) (a .p .now ∷ a .q .now ∷ a .r .now ∷ a .t .now ∷ []))
 
 same-length : tie.Need-same-length
 same-length c = search needs
 
 returns : tie.Need-returns
-unfolding fileOf fileWords contentsFor
+unfolding fileOf fileWords joined startFor
 returns c =
-    let st = c .before .before .before .before .before .before .before .before .before .before .before .before .before .before .before .before .before .before .before .before .before .before .before in
-    let big = st .pre .1 in
-    let long = made-long (st .args .k) (st .args .p .now) (st .args .q .now) (st .args .r .now) (st .args .t .now) in
-    let a = wordsOf (st .args .p .now) in
-    let b = wordsOf (st .args .q .now) in
-    let e = wordsOf (st .args .r .now) in
-    let f = wordsOf (st .args .t .now) in
-    let la = length-map (st .args .p .now) (ofZ w64) in
-    let lb = length-map (st .args .q .now) (ofZ w64) in
-    let le = length-map (st .args .r .now) (ofZ w64) in
-    let lf = length-map (st .args .t .now) (ofZ w64) in
-    let h = contentsFor (st .args .k) (length (st .args .p .now)) (length (st .args .q .now)) (length (st .args .r .now)) (length (st .args .t .now)) in
-    let d = st .args .d .now in
-    let m1 : c .before .before .before .before .before .before .before .before .before .before .before .before .before .before .before .before .before .before .put-words .last .0 ≡ pasted d 0 (bytesOfAll h) = rw (c .before .before .before .before .before .before .before .before .before .before .before .before .before .before .before .before .before .before .before .before .before .contents-for .ensures) at (c .before .before .before .before .before .before .before .before .before .before .before .before .before .before .before .before .before .before .put-words .ensures) in
-    let m2 = more d _ _ h a _ m1 (c .before .before .before .before .before .before .before .before .before .before .before .before .before .before .put-numbers .ensures) (omega arith) (omega (arith, big, long)) in
-    let n2 = length-append h a in
-    let m3 = more d _ _ (h ++ a) b _ m2 (c .before .before .before .before .before .before .before .before .before .before .put-numbers2 .ensures) (omega arith) (omega (arith, big, long)) in
-    let n3 = length-append (h ++ a) b in
-    let m4 = more d _ _ ((h ++ a) ++ b) e _ m3 (c .before .before .before .before .before .before .put-numbers3 .ensures) (omega arith) (omega (arith, big, long)) in
-    let n4 = length-append ((h ++ a) ++ b) e in
-    let m5 = more d _ _ (((h ++ a) ++ b) ++ e) f _ m4 (c .before .before .put-numbers4 .ensures) (omega arith) (omega (arith, big, long)) in
-    let n5 = length-append (((h ++ a) ++ b) ++ e) f in
-    let s : ((((h ++ a) ++ b) ++ e) ++ f) ≡ h ++ (a ++ (b ++ (e ++ f))) = simp append-assoc in
-    let g = all-long (h ++ (a ++ (b ++ (e ++ f)))) in
-    let k = ap length s in
-    (omega arith, m5 ∙ ap (λ (x : List ℕ). pasted d 0 (bytesOfAll x)) s)
+    let c4 = c .before .before in
+    let c3 = c4 .before .before .before .before in
+    let c2 = c3 .before .before .before .before in
+    let c1 = c2 .before .before .before .before in
+    let c0 = c1 .before .before .before .before in
+    let st = c0 .before .before .before .before .before in
+    let a = st .args in
+    let ls = a .p .now ∷ a .q .now ∷ a .r .now ∷ a .t .now ∷ [] in
+    let h = contentsFor places (a .k) ls in
+    let wp = wordsOf (a .p .now) in
+    let wq = wordsOf (a .q .now) in
+    let wr = wordsOf (a .r .now) in
+    let wt = wordsOf (a .t .now) in
+    let long = made-long places (a .k) ls in
+    let lh = contents-long places (a .k) ls in
+    let lp = length-map (a .p .now) (ofZ w64) in
+    let lq = length-map (a .q .now) (ofZ w64) in
+    let lr = length-map (a .r .now) (ofZ w64) in
+    let d = a .d .now in
+    let m0 : c0 .put-words .last .0 ≡ pasted d 0 (bytesOfAll h) = rw (c0 .before .before .before .contents-for .ensures) at (c0 .put-words .ensures) in
+    let m1 = more d _ _ h wp _ m0 (c1 .put-list .ensures .1) (omega (arith, lh)) (omega (arith, lh, st .pre .1, long)) in
+    let n1 = length-append h wp in
+    let m2 = more d _ _ (h ++ wp) wq _ m1 (c2 .put-list2 .ensures .1) (omega (arith, c1 .put-list .ensures .0)) (omega (arith, st .pre .1, long)) in
+    let n2 = length-append (h ++ wp) wq in
+    let m3 = more d _ _ ((h ++ wp) ++ wq) wr _ m2 (c3 .put-list3 .ensures .1) (omega (arith, c1 .put-list .ensures .0, c2 .put-list2 .ensures .0)) (omega (arith, st .pre .1, long)) in
+    let n3 = length-append ((h ++ wp) ++ wq) wr in
+    let m4 = more d _ _ (((h ++ wp) ++ wq) ++ wr) wt _ m3 (c4 .put-list4 .ensures .1) (omega (arith, c1 .put-list .ensures .0, c2 .put-list2 .ensures .0, c3 .put-list3 .ensures .0)) (omega (arith, st .pre .1, long)) in
+    let s : ((((h ++ wp) ++ wq) ++ wr) ++ wt) ≡ h ++ (((wp ++ wq) ++ wr) ++ wt) = simp append-assoc in
+    record {
+      bytes = m4 ∙ ap (λ (x : List ℕ). pasted d 0 (bytesOfAll x)) s;
+      place = omega (arith, long, c1 .put-list .ensures .0, c2 .put-list2 .ensures .0, c3 .put-list3 .ensures .0, c4 .put-list4 .ensures .0);
+    }
 
 pub encode-spec : {M : Type 1} → statement M
 encode-spec =
@@ -100,17 +102,9 @@ encode-spec =
     contents-for-requires
     slice-aggregate-put-words
     put-words-requires
-    put-numbers-requires
-    mul-s2
-    add-s2
-    put-numbers-requires-2
-    mul-s3
-    add-s3
-    put-numbers-requires-3
-    mul-s4
-    add-s4
-    put-numbers-requires-4
-    mul-result
-    add-result
+    put-list-requires
+    put-list-requires-2
+    put-list-requires-3
+    put-list-requires-4
     same-length
     returns)

@@ -1,127 +1,64 @@
--- `write_as` by the ways in which it ends: wrong lists, a file that the reader refuses, a room too short, a file stored.
-use Prim.Native.Nat.{ℕ, _≤_, _<_}
-use mathlib.Core.Path.{_≡_, sym, ap, _∙_}
+-- `write_as` by its two ends: refused, and the file stored.
+use native.Mathlib.Nat.{zero-add}
 use native.Mathlib.Omega.{arith}
+use mathlib.Core.Path.{_≡_, sym, ap, _∙_}
+use mathlib.Core.List.{[], _∷_}
 use lib.ListN.{length}
-use lib.Seq.{length-take-le}
-use Rattle.sections.specs.File.{refusalOf}
+use lib.IntN.{pos}
 use Rattle.whole.specs.Answers.{number}
-use Rattle.whole.proofs.Tests.{failed, passed}
-use Rattle.session.proofs.Answers.{number-back}
-use Rattle.writer.specs.Writing.{fileOf, orElse}
+use Rattle.whole.proofs.Linear.{ret}
+use Rattle.sections.specs.Layouts.{places}
+use Rattle.sections.proofs.Shapes.{today}
+use Rattle.writer.specs.Writing.{writeRefusal}
 use Rattle.writer.proofs.Longest.{made-short}
-use Rattle.writer.proofs.Outcomes.{front, refused, stored, by-lists, by-reader, by-short, by-file}
+use Rattle.writer.proofs.Outcomes.{accepted, answer-none, answer-long, room-stays, room-written}
 use borrow.Author.Needs.{needs}
 use Rattle.writer.proofs.write_as.Statement.{statement}
 use Rattle.writer.proofs.write_as.Tie as tie
 
-lists-right-requires : tie.Need-lists-right-requires
-lists-right-requires c κs = search needs
-
-refused-requires : tie.Need-refused-requires
-refused-requires c κs = search needs
-
--- the lists are wrong: 1
-returns : tie.Need-returns
-returns c =
-    let a = c .before .before .before .before .args in
-    let e = by-lists (a .k) (a .stations .now) (a .sources .now) (a .days .now) (a .passes .now) (a .room .now) (failed (c .before .before .lists-right .ensures) (c .before .if1 .taken)) in
-    let w = refused (a .k) (a .stations .now) (a .sources .now) (a .days .now) (a .passes .now) (a .room .now) _ e (λ (z : _≡_ {A = ℕ} 1 0). omega arith) in
-    (c .refused .ensures ∙ w .0, w .1)
-
-slice-aggregate-encode : tie.Need-slice-aggregate-encode
-slice-aggregate-encode c = search needs
-
-encode-requires : tie.Need-encode-requires
-encode-requires c κs =
-    let a = c .before .before .before .before .args in
-    let s = passed (c .before .before .lists-right .ensures) (c .before .if1 .left) in
-    (s, made-short (a .k) (a .stations .now) (a .sources .now) (a .days .now) (a .passes .now) s)
-
-array-share-prefix-file : tie.Need-array-share-prefix-file
-array-share-prefix-file c =
-    let a = c .before .before .before .before .before .before .args in
-    let s = passed (c .before .before .before .before .lists-right .ensures) (c .before .before .before .if1 .left) in
-    omega (arith, c .before .encode .ensures .0, c .before .encode .kept, made-short (a .k) (a .stations .now) (a .sources .now) (a .days .now) (a .passes .now) s)
-
-slice-aggregate-refusal-of : tie.Need-slice-aggregate-refusal-of
-slice-aggregate-refusal-of c =
-    let a = c .before .before .before .before .before .before .before .args in
-    let s = passed (c .before .before .before .before .before .lists-right .ensures) (c .before .before .before .before .if1 .left) in
-    sym (length-take-le _ _ (omega (arith, c .before .before .encode .ensures .0, c .before .before .encode .kept, made-short (a .k) (a .stations .now) (a .sources .now) (a .days .now) (a .passes .now) s)))
-
-refusal-of-requires : tie.Need-refusal-of-requires
-refusal-of-requires c κs = search needs
-
-refused-requires-2 : tie.Need-refused-requires-2
-refused-requires-2 c κs = search needs
-
--- the reader refuses the file: its number
-returns-2 : tie.Need-returns-2
-returns-2 c =
-    let a = c .before .before .before .before .before .before .before .before .before .before .args in
-    let n = c .before .before .before .before .before .encode in
-    let f = c .before .before .refusal-of .ensures .0 ∙ ap refusalOf (front _ _ _ _ (n .ensures .1) (n .ensures .0)) in
-    let s = passed (c .before .before .before .before .before .before .before .before .lists-right .ensures) (c .before .before .before .before .before .before .before .if1 .left) in
-    let e = by-reader (a .k) (a .stations .now) (a .sources .now) (a .days .now) (a .passes .now) (a .room .now) s (λ z. c .before .if2 .taken (f ∙ z)) in
-    let w = refused (a .k) (a .stations .now) (a .sources .now) (a .days .now) (a .passes .now) (a .room .now) _ (e ∙ sym f) (c .before .if2 .taken) in
-    (c .refused2 .ensures ∙ w .0, w .1)
-
-refused-requires-3 : tie.Need-refused-requires-3
-refused-requires-3 c κs = search needs
-
--- the room is too short: 7
-returns-3 : tie.Need-returns-3
-returns-3 c =
-    let a = c .before .before .before .before .before .before .before .before .before .before .before .args in
-    let n = c .before .before .before .before .before .before .encode in
-    let f = c .before .before .before .refusal-of .ensures .0 ∙ ap refusalOf (front _ _ _ _ (n .ensures .1) (n .ensures .0)) in
-    let s = passed (c .before .before .before .before .before .before .before .before .before .lists-right .ensures) (c .before .before .before .before .before .before .before .before .if1 .left) in
-    let short : length (a .room .now) < length (fileOf (a .k) (a .stations .now) (a .sources .now) (a .days .now) (a .passes .now)) = omega (arith, n .ensures .0, c .before .if3 .taken) in
-    let e = by-short (a .k) (a .stations .now) (a .sources .now) (a .days .now) (a .passes .now) (a .room .now) s short ∙ ap (λ (x : ℕ). orElse x 7) (sym f ∙ c .before .before .if2 .left) in
-    let w = refused (a .k) (a .stations .now) (a .sources .now) (a .days .now) (a .passes .now) (a .room .now) _ e (λ (z : _≡_ {A = ℕ} 7 0). omega arith) in
-    (c .refused3 .ensures ∙ w .0, w .1)
-
-encode-requires-2 : tie.Need-encode-requires-2
-encode-requires-2 c κs =
-    (passed (c .before .before .before .before .before .before .before .before .before .lists-right .ensures) (c .before .before .before .before .before .before .before .before .if1 .left), omega (arith, c .before .before .before .before .before .before .encode .ensures .0, c .before .if3 .left))
+judged-requires : tie.Need-judged-requires
+judged-requires c κs = search needs
 
 number-requires : tie.Need-number-requires
 number-requires c κs = search needs
 
+returns : tie.Need-returns
+returns c =
+    let n = c .before .before .judged in
+    let g = ret (c .number .result) (c .number .ok) ∙ c .number .ensures ∙ ap pos (n .ensures .0) in
+    let a = c .before .before .before .before .args in
+    let h : (writeRefusal places (a .k) (a .stations .now ∷ a .sources .now ∷ a .days .now ∷ a .passes .now ∷ []) (length (a .room .now)) ≡ 0 → ⊥) = λ z. c .before .if1 .taken (n .ensures .0 ∙ z) in
+    ((λ j. record { refusal = g j; value = pos 0 }) ∙ sym (answer-none today _ _ (a .room .now) h), sym (room-stays today _ _ (a .room .now) h))
+
+encode-requires : tie.Need-encode-requires
+encode-requires c κs =
+    let w = accepted today _ _ _ (sym (c .before .before .judged .ensures .0) ∙ c .before .if1 .left) in
+    (w .0, w .2)
+
+number-requires-2 : tie.Need-number-requires-2
+number-requires-2 c κs =
+    let w = accepted today _ _ _ (sym (c .before .before .before .before .before .judged .ensures .0) ∙ c .before .before .before .before .if1 .left) in
+    omega (arith, c .before .before .encode .ensures .place, made-short _ _ (w .0))
+
 same-length : tie.Need-same-length
 same-length c = search needs
 
--- the file is accepted and the room is long enough: the file is stored
-returns-4 : tie.Need-returns-4
-returns-4 c =
-    let a = c .before .before .before .before .before .before .before .before .before .before .before .before .before .before .before .args in
-    let n = c .before .before .before .before .before .before .before .before .before .before .encode in
-    let f = c .before .before .before .before .before .before .before .refusal-of .ensures .0 ∙ ap refusalOf (front _ _ _ _ (n .ensures .1) (n .ensures .0)) in
-    let s = passed (c .before .before .before .before .before .before .before .before .before .before .before .before .before .lists-right .ensures) (c .before .before .before .before .before .before .before .before .before .before .before .before .if1 .left) in
-    let long : length (fileOf (a .k) (a .stations .now) (a .sources .now) (a .days .now) (a .passes .now)) ≤ length (a .room .now) = omega (arith, n .ensures .0, c .before .before .before .before .before .if3 .left) in
-    let e = by-file (a .k) (a .stations .now) (a .sources .now) (a .days .now) (a .passes .now) (a .room .now) s long ∙ sym f ∙ c .before .before .before .before .before .before .if2 .left in
-    let w = stored (a .k) (a .stations .now) (a .sources .now) (a .days .now) (a .passes .now) (a .room .now) e in
-    let g = number-back (c .number .result) _ _ (c .number .ok) (c .number .ensures) (n .ensures .0) in
-    (ap number g ∙ w .0, c .before .before .before .encode2 .ensures .1 ∙ w .1)
+returns-2 : tie.Need-returns-2
+returns-2 c =
+    let e = sym (c .before .before .before .before .before .before .judged .ensures .0) ∙ c .before .before .before .before .before .if1 .left in
+    let p = c .before .before .before .encode .ensures in
+    let room = c .before .before .before .before .before .before .before .before .args .room .now in
+    let g = ret (c .number2 .result) (c .number2 .ok) ∙ c .number2 .ensures ∙ ap pos (p .place ∙ zero-add _) in
+    (ap number g ∙ sym (answer-long today _ _ room e), p .bytes ∙ sym (room-written today _ _ room e))
 
 pub write-as-spec : {M : Type 1} → statement M
 write-as-spec =
     tie.close
     (tie.spec
-    lists-right-requires
-    refused-requires
-    returns
-    slice-aggregate-encode
-    encode-requires
-    array-share-prefix-file
-    slice-aggregate-refusal-of
-    refusal-of-requires
-    refused-requires-2
-    returns-2
-    refused-requires-3
-    returns-3
-    encode-requires-2
+    judged-requires
     number-requires
+    returns
+    encode-requires
+    number-requires-2
     same-length
-    returns-4)
+    returns-2)

@@ -1,29 +1,15 @@
-use Rattle.writer.proofs.RoundTrips.{read-back}
+use Rattle.writer.proofs.Calls.{read-back}
 use borrow.Author.Needs.{needs}
 use Rattle.writer.proofs.theorems.reads_back.Statement.{statement}
 use Rattle.writer.proofs.theorems.reads_back.Tie as tie
 
-each-fits-requires : tie.Need-each-fits-requires
-each-fits-requires c κs = search needs
-
-each-fits-requires-2 : tie.Need-each-fits-requires-2
-each-fits-requires-2 c κs = search needs
-
-each-fits-requires-3 : tie.Need-each-fits-requires-3
-each-fits-requires-3 c κs = search needs
-
-each-fits-requires-4 : tie.Need-each-fits-requires-4
-each-fits-requires-4 c κs = search needs
+reads-back-as-requires : tie.Need-reads-back-as-requires
+reads-back-as-requires c κs = search needs
 
 returns : tie.Need-returns
-returns c = read-back _ _ _ _ _ (c .before .before .before .each-fits .ensures) (c .before .before .each-fits2 .ensures) (c .before .each-fits3 .ensures) (c .each-fits4 .ensures)
+returns c =
+    let a = c .before .before .args in
+    read-back (a .stations .now) (a .sources .now) (a .days .now) (a .passes .now) (a .room .now) (c .reads-back-as .ensures)
 
 pub reads-back-spec : {M : Type 1} → statement M
-reads-back-spec =
-    tie.close
-    (tie.spec
-    each-fits-requires
-    each-fits-requires-2
-    each-fits-requires-3
-    each-fits-requires-4
-    returns)
+reads-back-spec = tie.close (tie.spec reads-back-as-requires returns)

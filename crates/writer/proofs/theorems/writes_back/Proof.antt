@@ -1,4 +1,4 @@
-use Rattle.writer.proofs.RoundTrips.{written-back}
+use Rattle.writer.proofs.Calls.{written-back}
 use native.Mathlib.Omega.{arith}
 use Prim.Native.Nat.{ℕ}
 use borrow.Author.Needs.{needs}
