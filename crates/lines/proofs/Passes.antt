@@ -15,17 +15,17 @@ use Rattle.whole.proofs.Each.{below-all}
 use Rattle.whole.proofs.Linear.{and-true, no-tf}
 use Rattle.whole.specs.Values.{firstValues}
 use Rattle.whole.proofs.Values.{values-long, value-at}
-use Rattle.sections.specs.File.{refusalOf, countOf, countRight, layoutOf, present}
-use Rattle.sections.specs.Layouts.{pass}
-use Rattle.sections.proofs.Accepted.{accepted-contents}
-use Rattle.sections.proofs.Sound.{count-is-right}
+use Rattle.fields.specs.Ranges.{tolerance}
+use Rattle.fields.proofs.Inside.{holds-inside}
+use Rattle.sections.specs.File.{refusalOf, countOf}
+use Rattle.sections.specs.Layouts.{places}
 use Rattle.session.specs.declared.Counts.{Counts}
-use Rattle.session.specs.Records.{checkOf, countsIn, noCounts, passOf}
-use Rattle.session.proofs.Answers.{check-accepted}
-use Rattle.session.proofs.Fields.{layout-fourth}
-use Rattle.session.proofs.Laws.{Natural, pass-ranges}
-use Rattle.delay.specs.Calls.{samplesOf, sampleIn, samplesNumber, lowest, unless, allThere, allCovered}
-use Rattle.delay.proofs.Accepted.{pass-in}
+use Rattle.session.specs.Records.{checkOf, passOf}
+use Rattle.session.proofs.Answers.{check-accepted, check-number}
+use Rattle.session.proofs.Fields.{place-most}
+use Rattle.session.proofs.Laws.{pass-in}
+use Rattle.whole.specs.Refusals.{lowest, unless}
+use Rattle.delay.specs.Calls.{samplesOf, sampleIn, samplesNumber, allThere, allCovered}
 use Rattle.delay.proofs.Epochs.{samples-count}
 use Rattle.delay.proofs.Theorems.{sample-bounded}
 use Rattle.track.specs.Answer.{Outcome, inRange, outcome, refused}
@@ -51,16 +51,10 @@ unfolding given
 by-number zero o room f = f refl
 by-number (suc n) o room f = rw (eqb·suc-zero n)
 
-tolerance-in : (z : ℤ) → Natural 0 1000000 z → (leZ (pos 0) z ≡ true) × (leZ z (pos 1000000) ≡ true)
-tolerance-in z h = rw (h .is) (le-leb 0 (h .value) (h .least), le-leb (h .value) 1000000 (h .most))
-
 module _ (s : List ℕ) (h : refusalOf s ≡ 0) where
   few-passes : countOf s 3 ≤ 64
-  unfolding countRight pass
-  few-passes =
-      let r = and-true (present s 12) _ (count-is-right s (accepted-contents s h) 3 (omega arith)) .1 in
-      let m = and-true (leb (layoutOf s 3 .fewest) (countOf s 3)) _ r .1 in
-      leb-true (countOf s 3) 64 (rw (layout-fourth s h) at m)
+  unfolding places
+  few-passes = place-most s h 3 (omega arith) 64 refl
 
   module _ (i : ℕ) (l : i < countOf s 3) where
     pub number-by : samplesNumber s i 4096 ≡ cond (allThere s (passOf s i .station1) (passOf s i .station2) (passOf s i .source)) (cond (allCovered s (passOf s i)) 0 6) 5
@@ -78,9 +72,9 @@ module _ (s : List ℕ) (h : refusalOf s ≡ 0) where
         let k = samplesOf p in
         let f = sampleIn s p in
         let c = samples-count p (pass-in s h i l) in
-        let t = tolerance-in (p .tolerance) (pass-ranges s h i l .tolerance) in
+        let t = holds-inside tolerance (p .tolerance) (pass-in s h i l .tolerance) in
         let small : (j : ℕ) → j < k → leb ∣ getD (firstValues k f) j (pos 0) ∣ 130000000000 ≡ true = λ j m. rw (value-at k j f m) (le-leb ∣ f j ∣ 130000000000 (sample-bounded s i 4096 j e m)) in
-        rw (values-long k f, le-leb 1 k (c .0), le-leb k 4096 (c .1), t .0, t .1) (below-all k _ small)
+        rw (values-long k f, le-leb 1 k (c .0), le-leb k 4096 (c .1), t) (below-all k _ small)
 
     -- the pass has the number of its samples: 2,048 segments are always enough
     pub pass-number : lentOutcome s i .answer .refusal ≡ pos (samplesNumber s i 4096)
@@ -97,14 +91,6 @@ module _ (s : List ℕ) (h : refusalOf s ≡ 0) where
         neither (lentOutcome s i .answer .refusal) (allThere s (p .station1) (p .station2) (p .source)) (allCovered s p) (pass-number ∙ ap pos number-by) f g
 
 -- ---- the same by what `session::check` answers
-
-by-check : (s : List ℕ) (r : ℕ) → cond (eqb r 0) (countsIn s) (noCounts r) .refusal ≡ pos r
-by-check s zero = refl
-by-check s (suc r) = rw (eqb·suc-zero r)
-
-check-number : (s : List ℕ) → checkOf s .refusal ≡ pos (refusalOf s)
-unfolding checkOf
-check-number s = by-check s (refusalOf s)
 
 below-one : (z : ℤ) (r : ℕ) → z ≡ pos r → leZ (pos 1) z ≡ false → z ≡ pos 0
 below-one z zero e f = e

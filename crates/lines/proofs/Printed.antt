@@ -15,13 +15,16 @@ use Rattle.whole.proofs.Tests.{and-yes}
 use Rattle.whole.proofs.Values.{values-same}
 use Rattle.earth.specs.Epoch.{laterOf}
 use Rattle.text.specs.Words.{bitsAt}
-use Rattle.sections.specs.Layouts.{station, source, orientation, pass, places, noLayout, layoutIn, standsIn}
-use Rattle.sections.specs.File.{refusalOf, countOf, fieldAt, startOf, sectionsRight, kindRight, offsetRight, countRight, lengthRight, contentsRight, recordByte, fieldRight, recordRight, sectionRight, rangesRight, steps, stepRight, orderRight}
+use Rattle.sections.specs.Layouts.{places, noLayout, layoutIn, standsIn}
+use Rattle.sections.specs.File.{refusalOf, refusalBy, countOf, fieldAt, startOf, sectionsRight, kindRight, offsetRight, countRight, lengthRight, contentsRight, recordByte, fieldRight, recordRight, sectionRight, rangesRight, steps, stepRight, orderRight}
+use Rattle.sections.specs.Rows.{rowOf}
+use Rattle.fields.specs.Records.{stationFrom, sourceFrom, dayFrom, passFrom}
 use Rattle.session.specs.Records.{stationOf, sourceOf, dayOf, passOf, placeBy}
-use Rattle.session.proofs.Laws.{place-is, day-place}
+use Rattle.session.proofs.Fields.{first-number}
+use Rattle.session.proofs.Laws.{place-is, day-first, day-place}
 use Rattle.text.specs.Bytes.{bytesOf, bytesOfAll}
 use Rattle.delay.specs.Calls.{samplesOf, sampleIn, samplesNumber, allThere, allCovered}
-use Rattle.delay.specs.Sessions.{hasId, hasDay, covers, sampleEpoch}
+use Rattle.delay.specs.Sessions.{hasId, covers, sampleEpoch}
 use Rattle.delay.proofs.Theorems.{sample-same}
 use Rattle.fit.specs.Greedy.{grow, longest, counts}
 use Rattle.fit.specs.Rates.{low, upp, rowLo, rowHi, lo, hi, fit, off, bias, scaled, fitOf, tilted, lifted, rateOf, offsetOf}
@@ -62,19 +65,19 @@ module _ (s : List ℕ) (o : OneStationTwice s) where
   some p n e = omega (arith, e)
 
   -- the record at the head of its place is found by its id
-  there : (p : ℕ) (z : ℤ) → 0 < countOf s p → z ≡ fieldAt s p 0 0 → hasId s p z ≡ true
+  there : (p : ℕ) (z : ℤ) → 0 < countOf s p → z ≡ fieldAt places s p 0 0 → hasId s p z ≡ true
   there p z l e = lt-ltb (placeBy s p z) (countOf s p) (omega (arith, place-is s p z 0 l (sym e) (λ j m f. absurd (omega (arith, m))), l))
 
   -- the day behind the first is there, too
-  next-there : (z : ℤ) → z ≡ fieldAt s 2 0 0 +ℤ pos 1 → hasDay s z ≡ true
+  next-there : (z : ℤ) → z ≡ fieldAt places s 2 0 0 +ℤ pos 1 → hasId s 2 z ≡ true
   next-there z e =
       let l : 1 < countOf s 2 = omega (arith, o .days) in
       lt-ltb (placeBy s 2 z) (countOf s 2) (omega (arith, day-place s (o .accepted) z 1 l e, l))
 
   covered-at : (j : ℕ) → j < 3 → covers s (sampleEpoch (passOf s 0) j .day) ≡ true
-  unfolding covers dayOf
+  unfolding covers
   covered-at j l =
-      let e = o .on-first-day j l in
+      let e = o .on-first-day j l ∙ day-first s (o .accepted) 0 in
       and-yes (there 2 _ (some 2 1 (o .days)) e) (next-there _ (ap (λ (d : ℤ). d +ℤ pos 1) e))
 
   count-is : samplesOf (passOf s 0) ≡ 3
@@ -85,10 +88,12 @@ module _ (s : List ℕ) (o : OneStationTwice s) where
   covered = below-all (samplesOf (passOf s 0)) _ (λ j l. covered-at j (omega (arith, l, count-is)))
 
   named : allThere s (passOf s 0 .station1) (passOf s 0 .station2) (passOf s 0 .source) ≡ true
-  unfolding stationOf sourceOf
+  unfolding stationOf stationFrom sourceOf sourceFrom
   named =
-      and-yes (there 0 _ (some 0 0 (o .stations)) (o .first))
-      (and-yes (there 0 _ (some 0 0 (o .stations)) (o .second)) (there 1 _ (some 1 0 (o .sources)) (o .source)))
+      let a = first-number s (o .accepted) 0 (omega arith) 0 in
+      let b = first-number s (o .accepted) 1 (omega arith) 0 in
+      and-yes (there 0 _ (some 0 0 (o .stations)) (o .first ∙ a))
+      (and-yes (there 0 _ (some 0 0 (o .stations)) (o .second ∙ a)) (there 1 _ (some 1 0 (o .sources)) (o .source ∙ b)))
 
   clear : samplesNumber s 0 4096 ≡ 0
   clear = rw (named, covered) at (number-by s (o .accepted) 0 (some 3 0 (o .passes)))
@@ -109,7 +114,7 @@ module _ (s : List ℕ) (o : OneStationTwice s) where
 -- ---- one such file
 
 smallest-accepted : refusalOf smallest ≡ 0
-unfolding bytesOf bytesOfAll bitsAt station source orientation pass places noLayout layoutIn standsIn startOf sectionsRight kindRight offsetRight countRight lengthRight contentsRight recordByte fieldRight recordRight sectionRight rangesRight steps stepRight orderRight refusalOf allBelow
+unfolding bytesOf bytesOfAll bitsAt places noLayout layoutIn standsIn startOf sectionsRight kindRight offsetRight countRight lengthRight contentsRight recordByte fieldRight recordRight sectionRight rangesRight steps stepRight orderRight refusalBy allBelow
 smallest-accepted = refl
 
 smallest-long : length smallest ≡ 304
@@ -117,14 +122,14 @@ unfolding bytesOf bytesOfAll
 smallest-long = refl
 
 on-its-day : (j : ℕ) → j < 3 → sampleEpoch (passOf smallest 0) j .day ≡ dayOf smallest 0 .mjd
-unfolding bytesOf bytesOfAll bitsAt station source orientation pass places noLayout layoutIn recordByte passOf dayOf sampleEpoch laterOf
+unfolding bytesOf bytesOfAll bitsAt places noLayout layoutIn recordByte rowOf firstValues passOf passFrom dayOf dayFrom sampleEpoch laterOf
 on-its-day zero l = refl
 on-its-day (suc zero) l = refl
 on-its-day (suc (suc zero)) l = refl
 on-its-day (suc (suc (suc j))) l = absurd (omega (arith, l))
 
 smallest-is : OneStationTwice smallest
-unfolding bytesOf bytesOfAll bitsAt station source orientation pass places noLayout layoutIn recordByte stationOf sourceOf passOf
+unfolding bytesOf bytesOfAll bitsAt places noLayout layoutIn recordByte rowOf firstValues stationOf stationFrom sourceOf sourceFrom passOf passFrom
 smallest-is =
     record {
       accepted = smallest-accepted;

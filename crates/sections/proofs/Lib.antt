@@ -3,5 +3,4 @@ pub mod Walk
 pub mod Numbers
 pub mod Sound
 pub mod Accepted
-pub mod Rows
 pub mod TwoTables
