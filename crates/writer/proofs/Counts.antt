@@ -1,5 +1,5 @@
 -- Lists that are right counts of whole records. Assumes nothing.
-use mathlib.Core.Path.{_≡_, refl, sym, _∙_}
+use mathlib.Core.Path.{_≡_, refl, sym, ap, _∙_}
 use Prim.Native.Nat.{ℕ, zero, suc, _*_, _/_, _≤_, _<_}
 use native.Mathlib.Omega.{arith}
 use mathlib.Core.Bool.{true, false}
@@ -10,15 +10,32 @@ use lib.Dec.{leb, eqb}
 use borrow.Author.Tests.{eq-eqb, ne-eqb, eqb-true, le-leb, lt-leb, lt-ltb, ltb-true}
 use Rattle.whole.proofs.Linear.{and-true}
 use Rattle.whole.proofs.Each.{below-each}
-use Rattle.sections.specs.Layouts.{Table, layoutIn, standsIn}
+use Rattle.sections.specs.Layouts.{Layout, Table, layoutIn, standsIn}
 use Rattle.sections.specs.File.{between}
+use Rattle.sections.specs.Code.{shapeOf}
+use Rattle.sections.specs.declared.layouts.Shape.{Shape}
 use Rattle.sections.proofs.Shapes.{Good, stands-some}
 use Rattle.writer.specs.Writing.{kindAt, listAt, sizeIn, listRight, listsRight}
 use Rattle.writer.specs.declared.Kinds.{Kinds}
 
-module _ {t : Table} (g : Good t) (p k n : ℕ) where
-  -- ---- as the code tests them
+-- ---- a layout as the code holds it
 
+module _ (l : Layout) {r : Shape} (e : r ≡ shapeOf l) where
+  pub size-held : r .size ≡ length (l .fields)
+  unfolding shapeOf
+  size-held = ap (λ (x : Shape). x .size) e
+
+  pub fewest-held : r .fewest ≡ l .fewest
+  unfolding shapeOf
+  fewest-held = ap (λ (x : Shape). x .fewest) e
+
+  pub most-held : r .most ≡ l .most
+  unfolding shapeOf
+  most-held = ap (λ (x : Shape). x .most) e
+
+-- ---- as the code tests them
+
+module _ {t : Table} (g : Good t) (p k n : ℕ) where
   pub list-none : sizeIn t p k ≡ 0 → listRight t p k n ≡ false
   unfolding listRight
   list-none h = rw (stands-some g p k, h)

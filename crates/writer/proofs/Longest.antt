@@ -44,6 +44,10 @@ module _ (t : Table) (k : Kinds) (ls : List (List ℤ)) where
   unfolding fileOf
   made-long = all-long (fileWords t k ls) ∙ words-long
 
+  -- a room for the file has room for its bodies
+  pub made-fits : (n : ℕ) → length (fileOf t k ls) ≤ n → startFor ls 4 ≤ n
+  made-fits n h = rw made-long at h
+
 -- ---- the most numbers that a place holds
 
 -- of a layout, and the greatest of these layouts

@@ -9,7 +9,7 @@ use Rattle.text.specs.Bytes.{bytesOfAll, wordsOf, pasted}
 use Rattle.text.proofs.Paste.{more}
 use Rattle.sections.specs.Layouts.{places}
 use Rattle.writer.specs.Writing.{startFor, joined, contentsFor, fileWords, fileOf}
-use Rattle.writer.proofs.Longest.{contents-long, made-long}
+use Rattle.writer.proofs.Longest.{contents-long, made-long, made-fits}
 use borrow.Author.Needs.{needs}
 use Rattle.writer.proofs.encode.Statement.{statement}
 use Rattle.writer.proofs.encode.Tie as tie
@@ -31,30 +31,22 @@ put-words-requires c κs =
 put-list-requires : tie.Need-put-list-requires
 unfolding startFor
 put-list-requires c κs =
-    let st = c .before .before .before .before .before .before .before .before in
-    let a = st .args in
-    omega (arith, st .pre .1, made-long places (a .k) (a .p .now ∷ a .q .now ∷ a .r .now ∷ a .t .now ∷ []))
+    omega (arith, made-fits places _ _ _ (c .before .before .before .before .before .before .before .before .pre .1))
 
 put-list-requires-2 : tie.Need-put-list-requires-2
 unfolding startFor
 put-list-requires-2 c κs =
-    let st = c .before .before .before .before .before .before .before .before .before .before .before .before in
-    let a = st .args in
-    omega (arith, st .pre .1, made-long places (a .k) (a .p .now ∷ a .q .now ∷ a .r .now ∷ a .t .now ∷ []))
+    omega (arith, made-fits places _ _ _ (c .before .before .before .before .before .before .before .before .before .before .before .before .pre .1))
 
 put-list-requires-3 : tie.Need-put-list-requires-3
 unfolding startFor
 put-list-requires-3 c κs =
-    let st = c .before .before .before .before .before .before .before .before .before .before .before .before .before .before .before .before in
-    let a = st .args in
-    omega (arith, st .pre .1, made-long places (a .k) (a .p .now ∷ a .q .now ∷ a .r .now ∷ a .t .now ∷ []))
+    omega (arith, made-fits places _ _ _ (c .before .before .before .before .before .before .before .before .before .before .before .before .before .before .before .before .pre .1))
 
 put-list-requires-4 : tie.Need-put-list-requires-4
 unfolding startFor
 put-list-requires-4 c κs =
-    let st = c .before .before .before .before .before .before .before .before .before .before .before .before .before .before .before .before .before .before .before .before in
-    let a = st .args in
-    omega (arith, st .pre .1, made-long places (a .k) (a .p .now ∷ a .q .now ∷ a .r .now ∷ a .t .now ∷ []))
+    omega (arith, made-fits places _ _ _ (c .before .before .before .before .before .before .before .before .before .before .before .before .before .before .before .before .before .before .before .before .pre .1))
 
 same-length : tie.Need-same-length
 same-length c = search needs
