@@ -45,14 +45,14 @@ returns-3 : tie.Need-returns-3
 returns-3 c =
     let o = c .before .before .before in
     let s = start (e1 o) in
-    let h : leb (samplesOf (s .args .p)) (s .args .room) ≡ false = lt-leb _ _ (rw (samples-read (s .args .p) (s .pre .1)) at (c .if3 .taken)) in
+    let h : leb (samplesOf (s .args .p)) (s .args .room) ≡ false = lt-leb (samplesOf (s .args .p)) (s .args .room) (rw (samples-read (s .args .p) (s .pre .1)) at (c .if3 .taken)) in
     (rw (there (e1 o), covered o, h), omega arith)
 
 returns-4 : tie.Need-returns-4
 returns-4 c =
     let o = c .before .before .before in
     let s = start (e1 o) in
-    let h : leb (samplesOf (s .args .p)) (s .args .room) ≡ true = le-leb _ _ (rw (samples-read (s .args .p) (s .pre .1)) at (c .if3 .left)) in
+    let h : leb (samplesOf (s .args .p)) (s .args .room) ≡ true = le-leb (samplesOf (s .args .p)) (s .args .room) (rw (samples-read (s .args .p) (s .pre .1)) at (c .if3 .left)) in
     (rw (there (e1 o), covered o, h), omega arith)
 
 pub lacks-spec : {M : Type 1} → statement M
