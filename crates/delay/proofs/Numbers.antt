@@ -42,8 +42,8 @@ delay-first s a b r day ms =
     joined (refusalOf s) (unless ok 2) (unless t 5 ∷ unless c 6 ∷ [])
     ∙ in-order (up-to (judgedOf s ok) 4 (judged-most s ok) (test 4 5 t (omega arith) (test 5 6 c (omega arith) end)))
 
--- what a pass of the file has to pass
-module _ (s : List ℕ) (i n : ℕ) where
+-- the tests of pass i: it is there, so is what it names, its days are covered, and there is room for its samples
+module _ (s : List ℕ) (i : ℕ) where
   abbrev pub indexOk : Bool
   indexOk = ltb i (countOf s 3)
 
@@ -53,15 +53,15 @@ module _ (s : List ℕ) (i n : ℕ) where
   abbrev pub daysOk : Bool
   daysOk = allCovered s (passOf s i)
 
-  abbrev pub roomOk : Bool
-  roomOk = leb (samplesOf (passOf s i)) n
+  abbrev pub roomOk : ℕ → Bool
+  roomOk n = leb (samplesOf (passOf s i)) n
 
-  pub samples-first : samplesNumber s i n ≡ firstOf (refusalOf s ∷ unless indexOk 5 ∷ unless namesOk 5 ∷ unless daysOk 6 ∷ unless roomOk 7 ∷ [])
+  pub samples-first : (n : ℕ) → samplesNumber s i n ≡ firstOf (refusalOf s ∷ unless indexOk 5 ∷ unless namesOk 5 ∷ unless daysOk 6 ∷ unless (roomOk n) 7 ∷ [])
   unfolding samplesNumber
-  samples-first =
+  samples-first n =
       in-order
       (up-to (refusalOf s) 4 (refusal-most today s)
-      (test 4 5 indexOk (omega arith) (test 5 5 namesOk (omega arith) (test 5 6 daysOk (omega arith) (test 6 7 roomOk (omega arith) end)))))
+      (test 4 5 indexOk (omega arith) (test 5 5 namesOk (omega arith) (test 5 6 daysOk (omega arith) (test 6 7 (roomOk n) (omega arith) end)))))
 
 -- where 6 is given, the days are what failed
 pub six-fails : (f : ℕ) (i t c r : Bool) → f ≤ 4 → firstOf (f ∷ unless i 5 ∷ unless t 5 ∷ unless c 6 ∷ unless r 7 ∷ []) ≡ 6 → c ≡ false

@@ -155,9 +155,9 @@ pub record Given (s : List ℕ) (i n : ℕ) : Type 0 where
 
 pub samples-clear : (s : List ℕ) (i n : ℕ) → samplesNumber s i n ≡ 0 → Given s i n
 samples-clear s i n e =
-    let x = indexOk s i n in
-    let t = namesOk s i n in
-    let c = daysOk s i n in
+    let x = indexOk s i in
+    let t = namesOk s i in
+    let c = daysOk s i in
     let m = roomOk s i n in
     let f = first-zero (refusalOf s) (unless x 5 ∷ unless t 5 ∷ unless c 6 ∷ unless m 7 ∷ []) (sym (samples-first s i n) ∙ e) in
     let g = first-zero (unless x 5) (unless t 5 ∷ unless c 6 ∷ unless m 7 ∷ []) (f .1) in
@@ -202,7 +202,7 @@ unfolding allCovered
 six-only s i n e =
     let p = passOf s i in
     let q : ℕ → Bool = λ (x : ℕ). covers s (sampleEpoch p x .day) in
-    let c = six-fails (refusalOf s) (indexOk s i n) (namesOk s i n) (allBelow (samplesOf p) q) (roomOk s i n) (refusal-most today s) (sym (samples-first s i n) ∙ e) in
+    let c = six-fails (refusalOf s) (indexOk s i) (namesOk s i) (allBelow (samplesOf p) q) (roomOk s i n) (refusal-most today s) (sym (samples-first s i n) ∙ e) in
     let l = not-all (samplesOf p) q c in
     record { sample = firstNot (samplesOf p) q; within = l; lacks = first-fails (samplesOf p) q l }
 

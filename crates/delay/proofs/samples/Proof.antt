@@ -42,7 +42,7 @@ module _ (s : List ℕ) (i : ℕ) (room : List ℤ) where
   n = length room
 
   abbrev tests : List ℕ
-  tests = unless (indexOk s i n) 5 ∷ unless (namesOk s i n) 5 ∷ unless (daysOk s i n) 6 ∷ unless (roomOk s i n) 7 ∷ []
+  tests = unless (indexOk s i) 5 ∷ unless (namesOk s i) 5 ∷ unless (daysOk s i) 6 ∷ unless (roomOk s i n) 7 ∷ []
 
   refused : (k : ℕ) {v : Number} → v ≡ noNumber k → firstOf (refusalOf s ∷ tests) ≡ k → (k ≡ 0 → ⊥) → (v ≡ samplesOutcome s i n) × (room ≡ samplesRoom s i room)
   unfolding samplesOutcome samplesRoom
