@@ -20,6 +20,6 @@ bitsAt s at = quadAt s at + 4294967296 * quadAt s (at + 4)
 abbrev pub numberAt : List ℕ → ℕ → ℤ
 numberAt s at = toZ w64 (bitsAt s at)
 
--- word j of a file: the number of its bytes 8j to 8j + 7, without a sign
+-- word j: the number of bytes 8j to 8j + 7, without a sign
 abbrev pub word : List ℕ → ℕ → ℕ
 word s j = bitsAt s (8 * j)

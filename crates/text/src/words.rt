@@ -59,7 +59,7 @@ pub fn number_at(s: &[u8], at: usize) -> i64
     signed(bits_at(s, at))
 }
 
-// Word j, which is a kind, a first byte or a count.
+// Word j: the number of bytes 8j to 8j + 7, without a sign.
 pub fn word_at(s: &[u8], j: usize) -> usize
     requires { ⌜ 8 * j + 8 ≤ length (now s) ⌝ }
     ensures { λ r. ⌜ r ≡ word (now (s .entry)) j ⌝ }
