@@ -154,31 +154,56 @@ fn no_layout() -> Shape
     }
 }
 
-// The layout of a kind in a place; one of no fields where that kind cannot stand there.
+// What may stand in each place: the layout of a kind there, or one of no fields.
+fn of_stations(kind: usize) -> Shape
+    ensures { λ r. ⌜ r ≡ shapeOf (layoutIn places 0 kind) ⌝ }
+{
+    if kind == 1 {
+        return station();
+    }
+    no_layout()
+}
+
+fn of_sources(kind: usize) -> Shape
+    ensures { λ r. ⌜ r ≡ shapeOf (layoutIn places 1 kind) ⌝ }
+{
+    if kind == 2 {
+        return source();
+    }
+    no_layout()
+}
+
+fn of_days(kind: usize) -> Shape
+    ensures { λ r. ⌜ r ≡ shapeOf (layoutIn places 2 kind) ⌝ }
+{
+    if kind == 3 {
+        return orientation();
+    }
+    no_layout()
+}
+
+fn of_passes(kind: usize) -> Shape
+    ensures { λ r. ⌜ r ≡ shapeOf (layoutIn places 3 kind) ⌝ }
+{
+    if kind == 4 {
+        return pass();
+    }
+    no_layout()
+}
+
+// The layout of a kind in a place.
 pub fn layout_in(place: usize, kind: usize) -> Shape
     requires { ⌜ place < 4 ⌝ }
     ensures { λ r. ⌜ r ≡ shapeOf (layoutIn places place kind) ⌝ }
 {
     if place == 0 {
-        if kind == 1 {
-            return station();
-        }
-        return no_layout();
+        return of_stations(kind);
     }
     if place == 1 {
-        if kind == 2 {
-            return source();
-        }
-        return no_layout();
+        return of_sources(kind);
     }
     if place == 2 {
-        if kind == 3 {
-            return orientation();
-        }
-        return no_layout();
+        return of_days(kind);
     }
-    if kind == 4 {
-        return pass();
-    }
-    no_layout()
+    of_passes(kind)
 }
