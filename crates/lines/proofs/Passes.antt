@@ -4,15 +4,15 @@ use mathlib.Core.Bool.{Bool, true, false, cond}
 use mathlib.Core.List.{List, [], _∷_}
 use Prim.Native.Nat.{ℕ, zero, suc, _*_, _/_, _≤_, _<_}
 use native.Mathlib.Omega.{arith}
-use borrow.Author.Tests.{leb-true, le-leb, lt-ltb}
-use lib.Dec.{eqb, leb, eqb·suc-zero}
+use borrow.Author.Tests.{le-leb, lt-ltb}
+use lib.Dec.{leb, eqb·suc-zero}
 use lib.IntN.{ℤ, pos}
 use lib.ListN.{length, getD, replicate, length-replicate}
 use lib.Signed.{leZ}
 use Rattle.whole.specs.Whole.{∣_∣}
 use Rattle.whole.specs.Answers.{given}
 use Rattle.whole.proofs.Each.{below-all}
-use Rattle.whole.proofs.Linear.{and-true, no-tf}
+use Rattle.whole.proofs.Linear.{no-tf}
 use Rattle.whole.specs.Values.{firstValues}
 use Rattle.whole.proofs.Values.{values-long, value-at}
 use Rattle.fields.specs.Ranges.{tolerance}

@@ -1,21 +1,20 @@
 -- Two tables in one sentence: where they have the same layouts for a file's kinds, they give it the same number; so a kind more changes no file that does not
 -- use it. Assumes nothing.
-use mathlib.Core.Path.{_≡_, refl, sym, ap, ap₂, _∙_}
+use mathlib.Core.Path.{_≡_, refl, ap, ap₂, _∙_}
 use Prim.Native.Nat.{ℕ, zero, suc, _+_, _-_, _*_, _≤_, _<_}
 use native.Mathlib.Omega.{arith}
-use mathlib.Core.Bool.{Bool, true, false, _&&_, cond}
+use mathlib.Core.Bool.{Bool, true, _&&_, cond}
 use mathlib.Core.List.{List, [], _∷_, _++_}
 use lib.ListN.{length}
 use lib.IntN.{ℤ}
 use lib.Dec.{leb, eqb}
 use borrow.Author.Tests.{ne-eqb}
 use Rattle.whole.specs.Each.{allBelow, implies}
-use Rattle.whole.specs.Refusals.{unless, lowest}
 use Rattle.whole.proofs.Each.{all-same}
 use Rattle.text.specs.Words.{numberAt}
 use Rattle.fields.specs.Ranges.{inside}
 use Rattle.sections.specs.Layouts.{Layout, Table, withKind, ofKind, anyOfKind, layoutsIn, layoutIn, standsIn, rising, consecutive}
-use Rattle.sections.specs.File.{kindOf, firstByte, countOf, present, between, layoutOf, sizeOf, startOf, sectionsRight, kindRight, offsetRight, countRight, lengthRight, contentsRight, recordByte, fieldAt, rangeOf, fieldRight, recordRight, sectionRight, rangesRight, steps, stepRight, orderRight, refusalBy}
+use Rattle.sections.specs.File.{kindOf, firstByte, countOf, present, between, layoutOf, sizeOf, startOf, kindRight, offsetRight, countRight, lengthRight, contentsRight, recordByte, fieldAt, rangeOf, fieldRight, recordRight, sectionRight, rangesRight, steps, stepRight, orderRight, refusalBy}
 
 module _ (t u : Table) (s : List ℕ)
     (same : (p : ℕ) → p < 4 → layoutOf t s p ≡ layoutOf u s p) (stands : (p : ℕ) → p < 4 → standsIn t p (kindOf s p) ≡ standsIn u p (kindOf s p)) where
