@@ -38,7 +38,7 @@ pub struct Days {
     pub next: Day,
 }
 
-// Whether both hold.
+// Whether both hold, as one value: who joins two answers has no branch for it.
 pub fn both(a: bool, b: bool) -> bool
     ensures { λ r. ⌜ r ≡ (a && b) ⌝ }
 {
