@@ -5,20 +5,21 @@ use text::words::bits_at;
 use text::words::number_at;
 
 // A number, and what stands behind it.
-fn print(n: i64, behind: &[u8]) {
+fn print(n: i64, behind: u8) {
     let mut room = [0u8; 20];
     let text = decimal_text(&mut room, n);
+    let end = [behind];
     io::write_all(STDOUT_FILENO, text);
-    io::write_all(STDOUT_FILENO, behind);
+    io::write_all(STDOUT_FILENO, &end);
 }
 
 fn print_line(n: i64) {
-    print(n, b"\n");
+    print(n, b'\n');
 }
 
 fn print_number(a: whole::Number) {
-    print(a.refusal, b" ");
-    print(a.value, b"\n");
+    print(a.refusal, b' ');
+    print(a.value, b'\n');
 }
 
 // Each number on a line of its own.
@@ -32,11 +33,11 @@ fn print_lines(list: &[i64]) {
 
 fn answer_orientation(file: &[u8], day: i64, ms: i64) {
     let a = delay::orientation(file, day, ms);
-    print(a.refusal, b" ");
-    print(a.x, b" ");
-    print(a.y, b" ");
-    print(a.ut1_utc, b" ");
-    print(a.tick as i64, b"\n");
+    print(a.refusal, b' ');
+    print(a.x, b' ');
+    print(a.y, b' ');
+    print(a.ut1_utc, b' ');
+    print(a.tick as i64, b'\n');
 }
 
 fn answer_delay(file: &[u8], question: &[u8; 48]) {

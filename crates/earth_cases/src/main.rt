@@ -5,50 +5,51 @@ use text::words::bits_at;
 use text::words::number_at;
 
 // A number, and what stands behind it.
-fn print(n: i64, behind: &[u8]) {
+fn print(n: i64, behind: u8) {
     let mut room = [0u8; 20];
     let text = decimal_text(&mut room, n);
+    let end = [behind];
     io::write_all(STDOUT_FILENO, text);
-    io::write_all(STDOUT_FILENO, behind);
+    io::write_all(STDOUT_FILENO, &end);
 }
 
 fn print_arguments(a: earth::TicksAnswer) {
-    print(a.refusal, b" ");
-    print(a.n, b" ");
-    print(a.l as i64, b" ");
-    print(a.lp as i64, b" ");
-    print(a.f as i64, b" ");
-    print(a.d as i64, b" ");
-    print(a.om as i64, b"\n");
+    print(a.refusal, b' ');
+    print(a.n, b' ');
+    print(a.l as i64, b' ');
+    print(a.lp as i64, b' ');
+    print(a.f as i64, b' ');
+    print(a.d as i64, b' ');
+    print(a.om as i64, b'\n');
 }
 
 fn print_number(a: whole::Number) {
-    print(a.refusal, b" ");
-    print(a.value, b"\n");
+    print(a.refusal, b' ');
+    print(a.value, b'\n');
 }
 
 fn print_angle(a: earth::AngleAnswer) {
-    print(a.refusal, b" ");
-    print(a.e, b" ");
-    print(a.tick as i64, b"\n");
+    print(a.refusal, b' ');
+    print(a.e, b' ');
+    print(a.tick as i64, b'\n');
 }
 
 fn print_epoch(a: earth::EpochAnswer) {
-    print(a.refusal, b" ");
-    print(a.day, b" ");
-    print(a.ms, b"\n");
+    print(a.refusal, b' ');
+    print(a.day, b' ');
+    print(a.ms, b'\n');
 }
 
 fn print_rotation(m: [[i64; 3]; 3]) {
-    print(m[0][0], b" ");
-    print(m[0][1], b" ");
-    print(m[0][2], b" ");
-    print(m[1][0], b" ");
-    print(m[1][1], b" ");
-    print(m[1][2], b" ");
-    print(m[2][0], b" ");
-    print(m[2][1], b" ");
-    print(m[2][2], b"\n");
+    print(m[0][0], b' ');
+    print(m[0][1], b' ');
+    print(m[0][2], b' ');
+    print(m[1][0], b' ');
+    print(m[1][1], b' ');
+    print(m[1][2], b' ');
+    print(m[2][0], b' ');
+    print(m[2][1], b' ');
+    print(m[2][2], b'\n');
 }
 
 // A negative tick is read modulo 2^32.
@@ -58,7 +59,7 @@ fn tick(bits: u64) -> u32 {
 
 fn answer(what: i64, t: u32, a: i64, b: i64, c: i64) {
     match what {
-        1 => print(sine::sine(t), b"\n"),
+        1 => print(sine::sine(t), b'\n'),
         2 => print_arguments(earth::arguments(a, b, c)),
         3 => print_number(earth::tide(a, b, c)),
         4 => print_angle(earth::angle_at(a, b)),

@@ -5,11 +5,12 @@ use text::words::bits_at;
 use text::words::number_at;
 
 // A number, and what stands behind it.
-fn print(n: i64, behind: &[u8]) {
+fn print(n: i64, behind: u8) {
     let mut room = [0u8; 20];
     let text = decimal_text(&mut room, n);
+    let end = [behind];
     io::write_all(STDOUT_FILENO, text);
-    io::write_all(STDOUT_FILENO, behind);
+    io::write_all(STDOUT_FILENO, &end);
 }
 
 fn end_line() {
@@ -59,8 +60,8 @@ fn read_numbers(list: &mut [i64]) {
 
 fn write_lists(stations: &[i64], sources: &[i64], days: &[i64], passes: &[i64], room: &mut [u8]) {
     let a = writer::write(stations, sources, days, passes, room);
-    print(a.refusal, b" ");
-    print(a.value, b"\n");
+    print(a.refusal, b' ');
+    print(a.value, b'\n');
     print_room(room);
 }
 
