@@ -4,7 +4,7 @@
  * From a session file to Earth rotation, delays, delay samples, tracks, and the delay that a track predicts. Link with target/staticlib/libhost.a, which
  * `rt staticlib host` makes: for x86-64 Linux, and on Arm with a cross compiler and an emulator, as examples/run-host does. It needs memcpy and memset of
  * the C library, no other, and keeps nothing between calls, so calls may run at the same time. The stack that a call takes, as measured and rounded up:
- * fringe_write 67,000 bytes, fringe_track 63,000, fringe_tide, fringe_orientation, fringe_delay and fringe_samples 3,000, each of the others 400.
+ * fringe_track 63,000 bytes, fringe_write 16,000, fringe_tide, fringe_orientation, fringe_delay and fringe_samples 3,000, each of the others 400.
  *
  * Units
  *   tick               1/2^32 of a turn, 0 to 2^32 - 1
