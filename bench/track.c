@@ -1,4 +1,4 @@
-/* links: host */
+/* links: erlensieg */
 /* The track of samples, per sample: `calls` counts samples, in lists of 4,096. */
 #include "frame.h"
 #include "baseline/track.c"

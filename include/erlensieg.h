@@ -114,7 +114,7 @@ struct fringe_place {
 
 /* as used at an epoch: the pole, UT1-UTC with the tide, and ERA in ticks */
 struct fringe_earth {
-	int64_t refusal, x, y, ut1_utc;
+	int64_t refusal, x, y, ut1_used;
 	uint32_t tick;
 };
 

@@ -48,8 +48,8 @@ def check_crate(tally, crate):
 
 def check_exports(tally):
     """What C calls has the promise of the call under it, or, where it hands out another shape, one of its own."""
-    named = {name for crate in [*CRATES, "host"] for name in re.findall(r"^abbrev pub (\w+Promise) :", read(crate, "specs", "Promises.antt"), re.MULTILINE)}
-    for path in sorted(glob.glob(os.path.join(ROOT, "crates", "host", "src", "*.rt"))):
+    named = {name for crate in [*CRATES, "erlensieg"] for name in re.findall(r"^abbrev pub (\w+Promise) :", read(crate, "specs", "Promises.antt"), re.MULTILINE)}
+    for path in sorted(glob.glob(os.path.join(ROOT, "crates", "erlensieg", "src", "*.rt"))):
         for name, contract in calls(read(path)):
             if name.startswith("fringe_"):
                 tally.check("%s ensures a promise, and nothing else" % name, cited(contract) in named)

@@ -30,10 +30,10 @@ unfoldable pub orientationNumber : List ℕ → ℤ → ℤ → ℕ
 orientationNumber s day ms = lowest (refusalOf s ∷ unless (epochOk day ms) 2 ∷ unless (covers s day) 6 ∷ [])
 
 abbrev pub earthAnswer : Earth → EarthAnswer
-earthAnswer e = record { refusal = pos 0; x = e .x; y = e .y; «ut1_utc» = e .«ut1_utc»; tick = e .tick }
+earthAnswer e = record { refusal = pos 0; x = e .x; y = e .y; «ut1_used» = e .«ut1_used»; tick = e .tick }
 
 abbrev pub noEarth : ℕ → EarthAnswer
-noEarth n = record { refusal = pos n; x = pos 0; y = pos 0; «ut1_utc» = pos 0; tick = 0 }
+noEarth n = record { refusal = pos n; x = pos 0; y = pos 0; «ut1_used» = pos 0; tick = 0 }
 
 unfoldable pub orientationOutcome : List ℕ → ℤ → ℤ → EarthAnswer
 orientationOutcome s day ms = given (orientationNumber s day ms) (earthAnswer (earthIn s (epochOf day ms))) noEarth

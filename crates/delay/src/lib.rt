@@ -35,7 +35,7 @@ pub struct EarthAnswer {
     pub refusal: i64,
     pub x: i64,
     pub y: i64,
-    pub ut1_utc: i64,
+    pub ut1_used: i64,
     pub tick: u32,
 }
 
@@ -61,7 +61,7 @@ fn no_earth(n: usize) -> EarthAnswer
         refusal: number(n),
         x: 0,
         y: 0,
-        ut1_utc: 0,
+        ut1_used: 0,
         tick: 0,
     }
 }
@@ -98,7 +98,7 @@ pub fn orientation(file: &[u8], day: i64, ms: i64) -> EarthAnswer
         refusal: 0,
         x: e.x,
         y: e.y,
-        ut1_utc: e.ut1_utc,
+        ut1_used: e.ut1_used,
         tick: e.tick,
     }
 }

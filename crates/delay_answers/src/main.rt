@@ -36,7 +36,7 @@ fn answer_orientation(file: &[u8], day: i64, ms: i64) {
     print(a.refusal, b' ');
     print(a.x, b' ');
     print(a.y, b' ');
-    print(a.ut1_utc, b' ');
+    print(a.ut1_used, b' ');
     print(a.tick as i64, b'\n');
 }
 

@@ -34,6 +34,6 @@ earthOf r0 r1 e =
     record {
       x = line (r0 .x) (r1 .x) (e .ms);
       y = line (r0 .y) (r1 .y) (e .ms);
-      «ut1_utc» = ut1Used r0 r1 e;
+      «ut1_used» = ut1Used r0 r1 e;
       tick = eraOf (e .day) (fOf (e .ms) (ut1Used r0 r1 e));
     }

@@ -21,7 +21,7 @@ ghost use Rattle.wave.specs.Keeping.{minuteOf, TrueMinute};
 pub struct Earth {
     pub x: i64,
     pub y: i64,
-    pub ut1_utc: i64,
+    pub ut1_used: i64,
     pub tick: u32,
 }
 
@@ -102,7 +102,7 @@ pub fn earth_at(r0: Day, r1: Day, e: Epoch, tide: i64) -> Earth
     Earth {
         x: x,
         y: y,
-        ut1_utc: ut1,
+        ut1_used: ut1,
         tick: tick,
     }
 }

@@ -12,7 +12,7 @@ number-requires c κs = search needs
 returns : tie.Need-returns
 returns c =
     let e = ret (c .number .result) (c .number .ok) ∙ c .number .ensures in
-    λ i. record { refusal = e i; x = pos 0; y = pos 0; «ut1_utc» = pos 0; tick = 0 }
+    λ i. record { refusal = e i; x = pos 0; y = pos 0; «ut1_used» = pos 0; tick = 0 }
 
 pub no-earth-spec : {M : Type 1} → statement M
 no-earth-spec = tie.close (tie.spec number-requires returns)

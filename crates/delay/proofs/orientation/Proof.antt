@@ -122,8 +122,8 @@ zero-number : (c : tie.Else2) → first (file (c .before .before .before)) (star
 zero-number c = let e = c .before .before in rw (clear e .0, clear e .1, passed (covers-is (c .before)) (c .if2 .left))
 
 -- the answer by its four numbers
-by-parts : {x y u : ℤ} {t : ℕ} (e : Earth) → x ≡ e .x → y ≡ e .y → u ≡ e .«ut1_utc» → t ≡ e .tick → _≡_ {A = EarthAnswer} (record { refusal = pos 0; x = x; y = y; «ut1_utc» = u; tick = t }) (earthAnswer e)
-by-parts e p q r s = λ i. record { refusal = pos 0; x = p i; y = q i; «ut1_utc» = r i; tick = s i }
+by-parts : {x y u : ℤ} {t : ℕ} (e : Earth) → x ≡ e .x → y ≡ e .y → u ≡ e .«ut1_used» → t ≡ e .tick → _≡_ {A = EarthAnswer} (record { refusal = pos 0; x = x; y = y; «ut1_used» = u; tick = t }) (earthAnswer e)
+by-parts e p q r s = λ i. record { refusal = pos 0; x = p i; y = q i; «ut1_used» = r i; tick = s i }
 
 returns-3 : tie.Need-returns-3
 returns-3 c =
@@ -134,7 +134,7 @@ returns-3 c =
     let r = v .earth-in .result in
     let x-back = ret (r .x) (c .struct-told .given .0 .1) in
     let y-back = ret (r .y) (c .struct-told .given .1 .0 .1) in
-    let ut1-back = ret (r .«ut1_utc») (c .struct-told .given .1 .1 .0 .1) in
+    let ut1-back = ret (r .«ut1_used») (c .struct-told .given .1 .1 .0 .1) in
     let t : _≡_ {A = Epoch} (record { day = toZ w64 (ofZ w64 (s .args .day)); ms = toZ w64 (ofZ w64 (s .args .ms)) }) (epochOf (s .args .day) (s .args .ms)) = λ i. record { day = back (s .fits .day) i; ms = back (s .fits .ms) i } in
     by-parts r x-back y-back ut1-back refl
     ∙ ap earthAnswer (v .earth-in .ensures .0 ∙ ap (earthIn f) t)

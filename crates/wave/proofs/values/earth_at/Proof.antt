@@ -87,7 +87,7 @@ returns c =
     let eu = used-back k ∙ used-is k in
     let g = simp (used-back k, ms-back s, day-back s) at (c .era-at .ensures) in
     let et = g ∙ ap (λ (z : ℤ). eraOf (s .args .e .day) (fOf (s .args .e .ms) z)) (used-is k) in
-    let e : _≡_ {A = Earth} _ (earthOf (s .args .r0) (s .args .r1) (s .args .e)) = λ i. record { x = ex i; y = ey i; «ut1_utc» = eu i; tick = et i } in
+    let e : _≡_ {A = Earth} _ (earthOf (s .args .r0) (s .args .r1) (s .args .e)) = λ i. record { x = ex i; y = ey i; «ut1_used» = eu i; tick = et i } in
     (e, subst InEarth (sym e) (earth-size (s .args .r0) (s .args .r1) (s .args .e) (s .pre .0 .0) (s .pre .0 .1) (s .pre .0 .3)))
 
 pub earth-at-spec : {M : Type 1} → statement M
