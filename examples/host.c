@@ -1,118 +1,121 @@
 /*
- * What a correlator's host does with a session file: examples/run-host builds and runs it on the sample session.
- * It prints the first pass's samples and its track, the prediction at its middle sample, and where the fault of a damaged copy lies.
- * A file that cannot be read, or is refused, ends it with a status that is not 0; of a refused file it prints where the fault lies.
+ * What a correlator's host does with a session file: examples/run-host builds and runs it on the sample session. It
+ * prints the first pass's samples and its track, the prediction at its middle sample, and where the fault of a damaged
+ * copy lies. A file that cannot be read, or is refused, ends it with a status that is not 0; of a refused file it
+ * prints where the fault lies.
  */
 #include <erlensieg.h>
 #include <errno.h>
+#include <inttypes.h>
 #include <stdio.h>
 #include <string.h>
 
-#define MOST_BYTES 65537
-#define MOST_SAMPLES 4096
-#define MOST_SEGMENTS 2048
+/* one byte more than a file may have, so that a longer one is noticed */
+#define MOST_BYTES (FRINGE_ANY_FILE_BYTES + 1)
 
-static uint8_t file[MOST_BYTES];
-static int64_t samples[MOST_SAMPLES], track[4 * MOST_SEGMENTS];
+static uint8_t file[MOST_BYTES], copy[MOST_BYTES];
+static int64_t samples[FRINGE_MOST_SAMPLES], track[FRINGE_MOST_TRACK_NUMBERS];
 
-/* at most MOST_BYTES of a file, which is one more than is accepted; -1 where it cannot be read */
-static long load(const char *name)
+/* reads a file and puts its length into `bytes`; 0 where it cannot be read */
+static int load(const char *name, size_t *bytes)
 {
 	FILE *in = fopen(name, "rb");
-	size_t n = in ? fread(file, 1, MOST_BYTES, in) : 0;
+	*bytes = in ? fread(file, 1, MOST_BYTES, in) : 0;
 	int bad = !in || ferror(in);
 	if (bad)
 		fprintf(stderr, "host: cannot read '%s': %s\n", name, strerror(errno));
 	if (in)
 		fclose(in);
-	return bad ? -1 : (long)n;
-}
-
-static void print_fault(const char *what, const uint8_t *bytes, size_t n)
-{
-	struct fringe_place place = fringe_fault(bytes, n);
-	if (place.number == 1) {
-		printf("%s: refused 1, at number %lld of the contents table, where 13 is the file's length\n", what, (long long)place.field);
-		return;
-	}
-	printf("%s: refused %lld, in section %lld, record %lld, field %lld\n", what, (long long)place.number, (long long)place.section,
-	       (long long)place.record, (long long)place.field);
+	return !bad;
 }
 
 static int refused(const char *what, int64_t number)
 {
 	if (number)
-		printf("%s: refused %lld\n", what, (long long)number);
+		printf("%s: refused %" PRId64 ": %s\n", what, number, fringe_refusal_text(number));
 	return number != 0;
 }
 
-/* the samples of the first pass; how many, 0 where it is refused */
-static int64_t print_samples(size_t n)
+static void print_fault(const char *what, const uint8_t *lent, size_t bytes)
 {
-	struct fringe_number taken = fringe_samples(file, n, 0, samples, MOST_SAMPLES);
+	struct fringe_place place = fringe_fault(lent, bytes);
+	refused(what, place.number);
+	if (place.number == FRINGE_WRONG_FILE)
+		printf("see number %" PRId64 " of the contents table, where 13 is the file's length\n", place.field);
+	else
+		printf("see section %" PRId64 " (%s), record %" PRId64 ", field %" PRId64 " (%s)\n", place.section,
+		       fringe_section_name(place.section), place.record, place.field,
+		       fringe_field_name(place.section, place.field));
+}
+
+/* the samples of the first pass; how many, 0 where it is refused */
+static size_t print_samples(size_t bytes)
+{
+	struct fringe_number taken = fringe_samples(file, bytes, 0, samples, FRINGE_MOST_SAMPLES);
 	if (refused("samples of pass 0", taken.refusal))
 		return 0;
 	for (int64_t i = 0; i < taken.value; i++)
-		printf("sample %lld: %lld ps\n", (long long)i, (long long)samples[i]);
-	return taken.value;
+		printf("sample %" PRId64 ": %" PRId64 " ps\n", i, samples[i]);
+	return (size_t)taken.value;
 }
 
-/* the track of the first pass's samples; how many segments, 0 where it is refused */
-static int64_t print_track(size_t n, int64_t count)
+/* the track of the first pass's samples; how many numbers it has, 0 where it is refused */
+static size_t print_track(size_t bytes, size_t count)
 {
-	struct fringe_pass pass = fringe_pass_at(file, n, 0);
-	struct fringe_number made = fringe_track(samples, count, pass.tolerance, track, 4 * MOST_SEGMENTS);
+	struct fringe_pass pass = fringe_pass_at(file, bytes, 0);
+	struct fringe_number made = fringe_track(samples, count, pass.tolerance, track, FRINGE_MOST_TRACK_NUMBERS);
 	if (refused("track of pass 0", made.refusal))
 		return 0;
-	printf("%lld samples, tolerance %lld ps: %lld segments\n", (long long)count, (long long)pass.tolerance, (long long)made.value);
-	for (int64_t i = 0; i < made.value; i++)
-		printf("segment %lld %lld %lld %lld\n", (long long)track[4 * i], (long long)track[4 * i + 1], (long long)track[4 * i + 2],
-		       (long long)track[4 * i + 3]);
-	return made.value;
+	printf("%zu samples, tolerance %" PRId64 " ps: %" PRId64 " segments\n", count, pass.tolerance, made.value);
+	for (int64_t i = 0; i < made.value; i++) {
+		const int64_t *segment = track + FRINGE_SEGMENT_NUMBERS * i;
+		printf("segment %" PRId64 " %" PRId64 " %" PRId64 " %" PRId64 "\n", segment[0], segment[1], segment[2],
+		       segment[3]);
+	}
+	return FRINGE_SEGMENT_NUMBERS * (size_t)made.value;
 }
 
-static int print_prediction(int64_t segments, int64_t sample)
+static int print_prediction(size_t track_numbers, uint64_t sample)
 {
-	struct fringe_number delay = fringe_predict(track, 4 * segments, sample);
-	struct fringe_host host = fringe_host_at(track, 4 * segments, sample);
+	struct fringe_number delay = fringe_predict(track, track_numbers, sample);
+	struct fringe_host host = fringe_host_at(track, track_numbers, sample);
 	if (refused("prediction", delay.refusal) || refused("host record", host.refusal))
 		return 0;
-	printf("prediction at sample %lld: %lld ps, %.15g s, %.15g cycles\n", (long long)sample, (long long)delay.value, host.record.seconds,
-	       host.record.cycles);
+	printf("prediction at sample %" PRIu64 ": %" PRId64 " ps, %.15g s, %.15g cycles\n", sample, delay.value,
+	       host.record.seconds, host.record.cycles);
 	return 1;
 }
 
-/* where the fault of a copy with a station id of 0 lies */
-static void damage(size_t n)
+/* where the fault of a copy lies whose first station has no id */
+static void damage(size_t bytes)
 {
-	static uint8_t copy[MOST_BYTES];
-	memcpy(copy, file, n);
-	memset(copy + 104, 0, 8);
-	print_fault("damaged copy", copy, n);
+	memcpy(copy, file, bytes);
+	memset(copy + FRINGE_CONTENTS_BYTES, 0, 8);
+	print_fault("damaged copy", copy, bytes);
 }
 
 int main(int count, char **words)
 {
+	size_t bytes;
 	if (count != 2) {
 		fprintf(stderr, "usage: host FILE\n");
 		return 2;
 	}
-	long n = load(words[1]);
-	if (n < 0)
+	if (!load(words[1], &bytes))
 		return 2;
 
-	struct fringe_counts counts = fringe_check(file, n);
+	struct fringe_counts counts = fringe_check(file, bytes);
 	if (counts.refusal) {
-		print_fault("session", file, n);
+		print_fault("session", file, bytes);
 		return 1;
 	}
-	printf("%lld stations, %lld sources, %lld days, %lld passes\n", (long long)counts.stations, (long long)counts.sources, (long long)counts.days,
-	       (long long)counts.passes);
+	printf("%" PRId64 " stations, %" PRId64 " sources, %" PRId64 " days, %" PRId64 " passes\n", counts.stations,
+	       counts.sources, counts.days, counts.passes);
 
-	int64_t taken = print_samples(n);
-	int64_t made = taken ? print_track(n, taken) : 0;
-	if (!made || !print_prediction(made, taken / 2))
+	size_t taken = print_samples(bytes);
+	size_t numbers = taken ? print_track(bytes, taken) : 0;
+	if (!numbers || !print_prediction(numbers, taken / 2))
 		return 1;
-	damage(n);
+	damage(bytes);
 	return 0;
 }

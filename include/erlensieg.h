@@ -1,55 +1,109 @@
 /*
- * Erlensieg: the model of a fringe check, for the correlator's host.
+ * Erlensieg: the delays of a fringe check between two radio telescopes, for the program that runs the correlator.
  *
- * From a session file to Earth rotation, delays, delay samples, tracks, and the delay that a track predicts. Link with target/staticlib/libhost.a, which
- * `rt staticlib host` makes: for x86-64 Linux, and on Arm with a cross compiler and an emulator, as examples/run-host does. It needs memcpy and memset of
- * the C library, no other, and keeps nothing between calls, so calls may run at the same time. The stack that a call takes, as measured and rounded up:
- * fringe_track 63,000 bytes, fringe_write 16,000, fringe_tide, fringe_orientation, fringe_delay and fringe_samples 3,000, each of the others 400.
+ * You have a session file: stations, radio sources, days of Earth orientation, planned passes. The calls below give the
+ * delay of each sample of a pass, and a track: a row of straight segments, the fewest that keep to all of the samples.
+ *
+ *     struct fringe_counts counts = fringe_check(file, file_bytes);            1. is the file right?
+ *     struct fringe_pass pass = fringe_pass_at(file, file_bytes, 0);           2. what its first pass asks for
+ *     struct fringe_number taken = fringe_samples(file, file_bytes, 0, samples, FRINGE_MOST_SAMPLES);
+ *     struct fringe_number made = fringe_track(samples, (size_t)taken.value, pass.tolerance, track,
+ *                                              FRINGE_MOST_TRACK_NUMBERS);     3. its samples, and their track
+ *     struct fringe_host now = fringe_host_at(track, FRINGE_SEGMENT_NUMBERS * (size_t)made.value, 7);
+ *                                                                              4. the delay at sample 7, from the track
+ *
+ * Look at `refusal` after each call. examples/host.c is such a program, whole.
+ *
+ * Building
+ *   The library is one archive, liberlensieg.a, for x86-64 Linux:
+ *       gcc your.c -Iinclude -Ltarget/staticlib -lerlensieg                    in the repository
+ *       gcc your.c $(pkg-config --cflags --libs erlensieg)                     after `examples/install PREFIX`
+ *   For the second, PKG_CONFIG_PATH has PREFIX/lib/pkgconfig. On another processor it takes a cross compiler for x86-64
+ *   and an emulator, as examples/run-host shows. This header is C99, C11 or C++17. The archive needs memcpy and memset
+ *   of the C library, no other. It keeps nothing between calls, so calls may run at the same time. The stack that a
+ *   call takes, as measured and rounded up: fringe_track 63,000 bytes, fringe_write 16,000, fringe_tide,
+ *   fringe_orientation, fringe_delay and fringe_samples 3,000, each of the others 400.
+ *
+ * Lent memory
+ *   NULL may not be passed, not even with length 0. For an empty slice pass fringe_no_numbers() or fringe_no_bytes().
+ *   A slice is a pointer and the parameter behind it, its length. A length counts what its name says: `.._bytes` bytes,
+ *   `.._numbers` numbers of 8 bytes, `sample_count` samples, one number each. A `const` slice is read only; `room` is
+ *   memory that the call may write. What is written starts at the first place of the room. The rest of it stays as it
+ *   was, and after a refusal all of it does. Nothing lent is kept after the call. Slices lent to one call do not
+ *   overlap. A pointer to numbers is aligned to 8 bytes; int64_t objects are.
+ *
+ * Refusals
+ *   Every call answers every input. A struct's `refusal` is 0, or one of the numbers of enum fringe_refusal; then all
+ *   of its other fields are 0. Where several apply, the lowest is given. So an argument that is out of range is 2 also
+ *   where the file by itself would be 3 or 4, and a file that is 1 goes before it.
  *
  * Units
  *   tick               1/2^32 of a turn, 0 to 2^32 - 1
  *   length             millimetres
- *   delay, tolerance   picoseconds
+ *   delay, tolerance   picoseconds (ps)
  *   pole x, y          microarcseconds
  *   UT1-UTC, tide      nanoseconds
  *   TAI-UTC            seconds
- *   day                MJD, 41,317 to 69,806; an epoch is a day and a UTC millisecond of it, 0 to 86,399,999
+ *   day                MJD; an epoch is a day and a UTC millisecond of it, 0 to 86,399,999
  *   sine, cosine       scaled by 2^30
- *   offset, rate       of a segment: 1/65,536 picosecond, and that for each sample
+ *   offset, rate       of a segment: 1/65,536 ps, and 1/65,536 ps for each sample (not for each second)
  *
- * Refusals
- *   Every call answers every input. A struct's `refusal` is 0, or the lowest of these numbers that applies; then its other fields are 0. So an argument's
- *   2 comes before a file's 3 or 4, and after its 1.
- *     1  file over 65,536 bytes, or its contents table or length not as they must be, counts included (the writer: counts)
- *     2  a field of the file, or an argument of the call, outside its range
- *     3  station or source ids do not rise
- *     4  orientation days not consecutive
- *     5  station, source or pass asked for is not there; so is an index beyond the last record
- *     6  an epoch, or any sample's epoch, lacks the orientation record of its day or of the next day
- *     7  lent room for samples, or for a file, too short
- *     8  no track fits the lent room
- *     9  sample not covered, or the lent track malformed (see fringe_predict)
+ * What a delay is
+ *   The time at which the wave reaches station 2 less that at which it reaches station 1: -s.b/c, where b is station 2
+ *   less station 1, both where they are at the epoch, s points to the source, which is infinitely far away, and c is
+ *   the speed of light. Exchanged stations negate it exactly, and one station named twice gives 0.
+ *   Not in it, each with its order of magnitude (light takes 3.3 ms for 1,000 km, and 21 ms for the Earth's radius):
+ *     the turning of the Earth while     station 2 goes on at up to 465 m/s: up to 21 ms, 10 m and 33 ns; for stations
+ *     the wave is on its way             1,000 km apart up to 5 ns
+ *     aberration, annual                 1/10,000 of the light time: 300 ns for 1,000 km, 2 microseconds for 6,400 km,
+ *                                        unless the place that you give for the source has it already
+ *     aberration, diurnal                1.5 millionths of the light time: 5 ns for 1,000 km
+ *     motion of the place of date        up to 0.13" a day, since the file has one place for all of its days: 2 ns for
+ *                                        1,000 km and a day
+ *     gravity                            of the Sun 0.4 ns at right angles to it and 170 ns at its edge, both for
+ *                                        6,000 km; of the Earth 0.02 ns
+ *     air, dry                           8 ns for each station at the zenith, 80 ns at 5 degrees above the horizon
+ *     air, wet                           up to 1.3 ns and 13 ns, in the same places
+ *     ionosphere                         for 10^18 electrons on a square metre 2 ns at 8.4 GHz and 25 ns at 2.3 GHz, at
+ *                                        the zenith; up to three times that low down
+ *     tides and loading of the ground    1 ns for the tide of the solid Earth, up to 0.3 ns for the oceans' load
+ *     drift of the continents            up to 0.3 ns a year, from the date that your stations' places are of
+ *     tides in UT1 and pole within       0.1 ns
+ *     a day
+ *     clocks, cables, antenna axes       whatever they are: 4 to 5 ns for a metre of cable
+ *   Most of these are differences between the two stations, and small for stations that are close together.
  *
- * Lent memory
- *   A slice is a pointer and a length: a `const` one is read only, another is room that the call may write. Lengths of number slices count
- *   numbers, those of bytes bytes. What is written starts at the room's first place; the rest of the room stays as it was, and after a refusal
- *   all of it does. Nothing lent is kept after the call. Slices lent to one call do not overlap. An empty slice has length 0, and its pointer may be any
- *   pointer of its type that is aligned and not null (a pointer to any object of that type will do); its target is never touched.
- *   The pointers of numbers are aligned to 8 bytes.
+ * What accuracy to expect
+ *   Of the arithmetic: compared with the plane wave worked out in doubles by ERFA, the delays of 600 tested baselines
+ *   lie within 12 ps and 5 10^-8 ps for each millimetre of baseline (50 ps for 1,000 km). What is left out is far more,
+ *   so a tolerance of some ps keeps the track to the model and not to the sky.
+ *   Round a triangle: the delays 1-2, 2-3 and 3-1 of one source and epoch add up to 0 but for the rounding of each. A
+ *   search for the worst found 14 ps. That no sum is greater is not proved yet.
+ *
+ * UT1
+ *   An orientation record holds UT1R: UT1 less the tides of up to 35 days. The calls add the tide of the epoch.
+ *   Bulletins give UT1-UTC with the tide in it, so take it away when you make a record of day `mjd` at 0h:
+ *       ut1_utc = (the bulletin's UT1-UTC in nanoseconds) - fringe_tide(mjd, 0, tai_utc).value
+ *   What fringe_orientation answers as `ut1_used` is full UT1-UTC, with the tide, as the delay uses it.
+ *   Between two records pole and UT1R-UTC go on a straight line. Where the next record's TAI-UTC is k seconds more (a
+ *   leap second: k is 1), UT1-UTC steps at its 0h and UT1 does not: the line of that day goes to the next record's
+ *   UT1-UTC less k seconds, so that ut1_used may pass 900,000,000 there.
  *
  * Session file
- *   All numbers of 8 bytes, little-endian, two's complement. First the contents table: the number of sections, 4; then for kinds 1, 2, 3, 4: kind,
- *   first byte, record count. Then the four bodies in that order without gaps, the first at byte 104, the last ending the file.
- *     kind 1, station       id 1-65,535, rising; X, Y, Z within 6,400,000,000 either side                                    1 to 64 records
- *     kind 2, source        id 1-65,535, rising; right ascension 0 to 2^32 - 1; declination within 2^30 either side          1 to 256
- *     kind 3, orientation   MJD, consecutive; x, y within 1,000,000 either side; UT1-UTC within 900,000,000; TAI-UTC 0-99    2 to 64
- *     kind 4, pass          ids of station 1, station 2 and source; MJD; UTC millisecond; step from one sample to the next 1-3,600,000 ms;
- *                           samples 1-4,096; tolerance 0-1,000,000                                                           1 to 64
- *   X, Y, Z are a station's place in the Earth-fixed frame: X toward the Greenwich meridian, Y toward 90 degrees east, Z toward the pole. A source's
- *   place is on the intermediate equator of date, right ascension counted from the celestial intermediate origin, both in ticks. An orientation record
- *   stands at 0h UTC of its day. UT1-UTC is UT1R, with the short tide removed: the calls below add the tide. Between two records the pole and UT1-UTC go
- *   on a straight line. Where the next record's TAI-UTC is k seconds more (a leap second: k = 1), UT1-UTC steps at its 0h and UT1 does not: the line of that
- *   day goes to the next record's UT1-UTC less k seconds, so that fringe_orientation may give a UT1-UTC beyond 900,000,000 there.
+ *   All numbers of 8 bytes, little-endian, two's complement. First the contents table of 13 numbers: the number of
+ *   sections, 4; then for the kinds 1, 2, 3, 4 in turn: kind, first byte, record count. Then the records of the four
+ *   sections in that order without gaps, the first at byte 104, the last ending the file. A record, and how many:
+ *     kind 1, station       id 1-65,535; X, Y, Z within 6,400,000,000 either side                          1 to 64
+ *     kind 2, source        id 1-65,535; right ascension 0 to 2^32 - 1; declination within 2^30            1 to 256
+ *     kind 3, day           MJD 41,317-69,806; x, y within 1,000,000; UT1-UTC within 900,000,000;          2 to 64
+ *                           TAI-UTC 0-99
+ *     kind 4, pass          ids of station 1, of station 2 and of the source; MJD; u, a UTC millisecond;   1 to 64
+ *                           step from one sample to the next, 1-3,600,000 ms; samples, 1-4,096;
+ *                           tolerance 0-1,000,000
+ *   Ids of stations, and of sources, rise from one record to the next; days are consecutive. X, Y, Z are a station's
+ *   place in the Earth-fixed frame: X toward the Greenwich meridian, Y toward 90 degrees east, Z toward the pole. A
+ *   source's place is on the intermediate equator of date, its right ascension counted from the celestial intermediate
+ *   origin, both in ticks: a place from a catalogue has to be turned to the date first. A day's record is of 0h UTC.
  */
 #ifndef ERLENSIEG_H
 #define ERLENSIEG_H
@@ -57,9 +111,82 @@
 #include <stddef.h>
 #include <stdint.h>
 
-#ifdef __cplusplus
-extern "C" {
-#endif
+/* 10,000 times the first number of the version, 100 times the second, and the third */
+#define FRINGE_VERSION "0.1.0"
+#define FRINGE_VERSION_NUMBER 100
+
+/* ---- Limits */
+
+/* of samples and tracks */
+#define FRINGE_MOST_SAMPLES 4096          /* samples of a pass, and of a track */
+#define FRINGE_MOST_SEGMENTS 2048         /* segments of a track that fringe_track makes: more it never needs */
+#define FRINGE_MOST_SEGMENT_SAMPLES 1024  /* samples of a segment */
+#define FRINGE_SEGMENT_NUMBERS 4          /* numbers of a segment: first sample, samples, offset, rate */
+#define FRINGE_MOST_TRACK_NUMBERS 8192    /* numbers of FRINGE_MOST_SEGMENTS: a room that is always enough */
+#define FRINGE_MOST_TOLERANCE 1000000     /* ps */
+#define FRINGE_MOST_DELAY INT64_C(130000000000) /* ps, either side: no delay is beyond, no sample of a track may be */
+
+/* of session files */
+#define FRINGE_RIGHT_FILE_BYTES 14952     /* the longest file that is right: a room that is always enough */
+#define FRINGE_ANY_FILE_BYTES 65536       /* a longer file is refused by its length alone */
+#define FRINGE_CONTENTS_BYTES 104         /* the contents table */
+#define FRINGE_STATION_NUMBERS 4          /* numbers of a record, as fringe_write takes them */
+#define FRINGE_SOURCE_NUMBERS 3
+#define FRINGE_DAY_NUMBERS 5
+#define FRINGE_PASS_NUMBERS 8
+#define FRINGE_MOST_STATIONS 64           /* records of a file */
+#define FRINGE_MOST_SOURCES 256
+#define FRINGE_MOST_DAYS 64
+#define FRINGE_LEAST_DAYS 2               /* of the other kinds one record is enough */
+#define FRINGE_MOST_PASSES 64
+#define FRINGE_MOST_ID 65535
+
+/* of epochs */
+#define FRINGE_FIRST_MJD 41317
+#define FRINGE_LAST_MJD 69806
+#define FRINGE_LAST_MS 86399999           /* the last millisecond of a day, also of one that a leap second ends */
+
+/* ---- Numbers with names */
+
+enum fringe_refusal {
+	FRINGE_ANSWERED = 0,
+	/* file over 65,536 bytes, or contents table or length not as they must be, counts included (writer: a count) */
+	FRINGE_WRONG_FILE = 1,
+	/* a field of the file, or an argument of the call, is outside its range */
+	FRINGE_OUT_OF_RANGE = 2,
+	/* station or source ids do not rise */
+	FRINGE_IDS_DO_NOT_RISE = 3,
+	/* orientation days are not consecutive */
+	FRINGE_DAYS_NOT_CONSECUTIVE = 4,
+	/* the station, source or pass asked for is not there; an index beyond the last record */
+	FRINGE_NOT_THERE = 5,
+	/* the file lacks the day of an epoch, or the day after; an epoch on the file's last day lacks the day after */
+	FRINGE_DAY_LACKING = 6,
+	/* the lent room for samples, or for a file, is too short */
+	FRINGE_ROOM_TOO_SHORT = 7,
+	/* no track of the samples fits the lent room */
+	FRINGE_NO_TRACK_FITS = 8,
+	/* the sample is not covered, or the lent track is malformed: see fringe_predict */
+	FRINGE_NOT_PREDICTED = 9
+};
+
+/* kinds of sections of a session file */
+enum fringe_kind {
+	FRINGE_KIND_STATION = 1,
+	FRINGE_KIND_SOURCE = 2,
+	FRINGE_KIND_DAY = 3,
+	FRINGE_KIND_PASS = 4
+};
+
+/* What will be said of a track that was made elsewhere, by a call that is not there yet. */
+enum fringe_track_fault {
+	FRINGE_TRACK_ACCEPTED = 0,
+	FRINGE_TRACK_PLACE = 1,  /* a segment does not start where the one before it ends, or runs past the samples */
+	FRINGE_TRACK_LENGTH = 2, /* a segment has no sample, or more than 1,024 */
+	FRINGE_TRACK_SAMPLE = 3  /* a segment misses one of its samples by more than the tolerance */
+};
+
+/* ---- Answers */
 
 /* one number: see each call */
 struct fringe_number {
@@ -99,6 +226,7 @@ struct fringe_source {
 	int64_t refusal, id, right_ascension, declination;
 };
 
+/* ut1_utc is UT1R-UTC, without the tide */
 struct fringe_day {
 	int64_t refusal, mjd, x, y, ut1_utc, tai_utc;
 };
@@ -118,7 +246,7 @@ struct fringe_earth {
 	uint32_t tick;
 };
 
-/* two doubles of one prediction */
+/* one prediction: seconds, and cycles of the 32 MHz clock */
 struct fringe_record {
 	double seconds, cycles;
 };
@@ -127,6 +255,10 @@ struct fringe_host {
 	int64_t refusal;
 	struct fringe_record record;
 };
+
+#ifdef __cplusplus
+extern "C" {
+#endif
 
 /* ---- Angles and Earth rotation */
 
@@ -137,91 +269,185 @@ int64_t fringe_cosine(uint32_t tick);
 /* The epoch that is `add` milliseconds later, 0 to 14,742,000,000; the day reached may pass 69,806. Refusal: 2. */
 struct fringe_epoch fringe_later(int64_t day, int64_t ms, int64_t add);
 
-/* n and the five arguments at an epoch, with `tai` for TAI-UTC, 0 to 99. Refusal: 2. */
-struct fringe_ticks fringe_arguments(int64_t day, int64_t ms, int64_t tai);
+/* n and the five arguments at an epoch, by a TAI-UTC of 0 to 99. Refusal: 2. */
+struct fringe_ticks fringe_arguments(int64_t day, int64_t ms, int64_t tai_utc);
 
-/* The short-period tide in UT1 at an epoch, with `tai` for TAI-UTC, 0 to 99: nanoseconds, at most 2,723,000 either side. Refusal: 2. */
-struct fringe_number fringe_tide(int64_t day, int64_t ms, int64_t tai);
+/*
+ * The tide in UT1 at an epoch, by a TAI-UTC of 0 to 99: the rows with periods of up to 35 days. value: nanoseconds,
+ * never beyond 2,723,000 either side. Refusal: 2.
+ */
+struct fringe_number fringe_tide(int64_t day, int64_t ms, int64_t tai_utc);
 
-/* E and ERA of a day and of f microseconds of UT1 in it, -100,000,000 to 86,500,000,000. Refusal: 2. */
+/* E and ERA of a day and of `f`, microseconds of UT1 in it, -100,000,000 to 86,500,000,000. Refusal: 2. */
 struct fringe_angle fringe_angle_at(int64_t day, int64_t f);
 
 /* The rotation by a tick: cos, -sin, 0; sin, cos, 0; 0, 0, 2^30. Never refused. */
 struct fringe_rotation fringe_rotate(uint32_t tick);
 
-/* ---- The session file: `n` bytes from `file`. Reading one gives 1 to 4. */
+/* ---- The session file */
 
-/* Whether the file is accepted, and how many records of each kind it has. Refusals: 1 to 4. */
-struct fringe_counts fringe_check(const uint8_t *file, size_t n);
-
-/*
- * Where the number that fringe_check gives arises first: number 0 and zeros for an accepted file.
- * For number 1, section and record are 0, and field is the first wrong 8-byte number of the contents table, counted from 0 to 12, or 13 where the
- * table is right and the file's length is not; a number that the file does not wholly hold is wrong. For 2, 3 and 4, section is the kind, 1 to 4, and
- * record and field count from 0; for 3 and 4 the record is the later of the two that do not follow each other, and field is 0.
- */
-struct fringe_place fringe_fault(const uint8_t *file, size_t n);
-
-/* The record at an index, counted from 0, of the file's stations, sources, orientation days, passes. Refusals: 1 to 4, and 5 beyond the last. */
-struct fringe_station fringe_station_at(const uint8_t *file, size_t n, uint64_t index);
-struct fringe_source fringe_source_at(const uint8_t *file, size_t n, uint64_t index);
-struct fringe_day fringe_day_at(const uint8_t *file, size_t n, uint64_t index);
-struct fringe_pass fringe_pass_at(const uint8_t *file, size_t n, uint64_t index);
+/* Whether the file is right, and how many records of each kind it has. Refusals: 1 to 4. */
+struct fringe_counts fringe_check(const uint8_t *file, size_t file_bytes);
 
 /*
- * Writes the session file of four lists of numbers, record after record in the fields' order above, to the start of the room, and answers the bytes
- * written: 14,952 are always enough. Refusals: 1 where a list is no whole number of records, or a count is outside its limits; 2 to 4 as fringe_check
- * would give them for the file; 7 where the room is too short.
+ * Where the number that fringe_check gives arises first; zeros for a right file.
+ * Number 1: section and record are 0. field is the first wrong number of the contents table, counted from 0 to 12; or
+ * 13, where all of them are right and the file's length is not. A number that the file does not wholly hold is wrong. A
+ * wrong count that is within its limits shows at the next section's first byte, which then does not follow from it, or
+ * for the last section as 13.
+ * Numbers 2, 3, 4: section is the kind, and record and field count from 0. For 3 and 4 the record is the later of the
+ * two that do not follow each other, and field is 0.
  */
-struct fringe_number fringe_write(const int64_t *stations, size_t stations_length, const int64_t *sources, size_t sources_length, const int64_t *days,
-				  size_t days_length, const int64_t *passes, size_t passes_length, uint8_t *room, size_t room_length);
+struct fringe_place fringe_fault(const uint8_t *file, size_t file_bytes);
+
+/* The record at an index, counted from 0, of each kind. Refusals: 1 to 4, and 5 beyond the last. */
+struct fringe_station fringe_station_at(const uint8_t *file, size_t file_bytes, uint64_t index);
+struct fringe_source fringe_source_at(const uint8_t *file, size_t file_bytes, uint64_t index);
+struct fringe_day fringe_day_at(const uint8_t *file, size_t file_bytes, uint64_t index);
+struct fringe_pass fringe_pass_at(const uint8_t *file, size_t file_bytes, uint64_t index);
 
 /*
- * ---- Delays of the file's stations and sources
- *
- * A delay is the time at which the wave reaches station 2 less that at which it reaches station 1: picoseconds, never beyond 130,000,000,000 either side.
- * Exchanged stations negate it exactly, and one station named twice gives 0.
+ * Writes the session file of four lists of numbers, record after record, each record with its fields in the order of
+ * 'Session file' above. value: bytes written; FRINGE_RIGHT_FILE_BYTES are always enough.
+ * Refusals: 1 where a list is no whole number of records, or a count is outside its limits; 2 to 4 as fringe_check
+ * would give them for the file; 7.
  */
+struct fringe_number fringe_write(const int64_t *stations, size_t station_numbers,
+				  const int64_t *sources, size_t source_numbers,
+				  const int64_t *days, size_t day_numbers,
+				  const int64_t *passes, size_t pass_numbers,
+				  uint8_t *room, size_t room_bytes);
+
+/* ---- Delays between stations of the file */
 
 /* The pole, UT1-UTC with the tide, and ERA, as used at an epoch. Refusals: 1 to 4, 2 also for the epoch, and 6. */
-struct fringe_earth fringe_orientation(const uint8_t *file, size_t n, int64_t day, int64_t ms);
-
-/* The delay at an epoch between two stations, by their ids, for a source, by its id. Refusals: 1 to 4, 2 also for ids and epoch, 5, 6. */
-struct fringe_number fringe_delay(const uint8_t *file, size_t n, int64_t station1, int64_t station2, int64_t source, int64_t day, int64_t ms);
+struct fringe_earth fringe_orientation(const uint8_t *file, size_t file_bytes, int64_t day, int64_t ms);
 
 /*
- * The delays of a pass's samples, by the pass's index, counted from 0. Sample i, counted from 0, is the delay at the pass's epoch with i times its step
- * added. `m` numbers from `room` are lent. value: samples written; 4,096 are always enough.
- * Refusals: 1 to 4; 5 where the pass, or a station or the source that it names, is not there; 6; 7.
+ * The delay at an epoch between two stations, by their ids, for a source, by its id. value: ps, never beyond
+ * FRINGE_MOST_DELAY either side. Refusals: 1 to 4, 2 also for ids and epoch, 5, 6.
  */
-struct fringe_number fringe_samples(const uint8_t *file, size_t n, uint64_t pass, int64_t *room, size_t m);
+struct fringe_number fringe_delay(const uint8_t *file, size_t file_bytes, int64_t station1, int64_t station2,
+				  int64_t source, int64_t day, int64_t ms);
+
+/*
+ * The delays of a pass's samples, by the pass's index, counted from 0. Sample i, counted from 0, is the delay at the
+ * pass's epoch with i times its step added. value: samples written; FRINGE_MOST_SAMPLES are always enough.
+ * Refusals: 1 to 4; 5 where the pass, or a station or the source that it names, is not there; 6 where any sample's
+ * epoch lacks its day or the day after; 7.
+ */
+struct fringe_number fringe_samples(const uint8_t *file, size_t file_bytes, uint64_t pass,
+				    int64_t *room, size_t room_numbers);
 
 /* ---- Tracks */
 
 /*
- * The track of `n` samples, 1 to 4,096, each within 130,000,000,000 either side, with a tolerance from 0 to 1,000,000. `m` numbers from `room` are lent,
- * four to a segment: first sample, samples (1 to 1,024), offset A, rate r; the numbers behind the last whole segment are not used. value: segments
- * written. 8,192 numbers are always enough.
- * A segment fits if A + r j lies within 65,536 times the tolerance of 65,536 times its sample j, for each j from 0. The first segment starts at sample 0,
- * each other where the one before it ends, and the last ends at the last sample. Each is the longest that fits from its start; its r is the least that
- * fits, 0 for a single sample, and its A the least for that r. So the track has the fewest segments of all whose every segment fits.
- * Refusals: 2; and 8 exactly if no track fits the room.
+ * The track of samples, each within FRINGE_MOST_DELAY either side, 1 to FRINGE_MOST_SAMPLES of them, with a tolerance
+ * from 0 to FRINGE_MOST_TOLERANCE. Four numbers of the room go to a segment: first sample, samples (1 to 1,024), offset
+ * A, rate r. Numbers of the room behind its last whole segment are not used. value: segments written, so 4 times as
+ * many numbers.
+ * A segment fits if A + r j lies within 65,536 times the tolerance of 65,536 times its sample j, for each j from 0. The
+ * first segment starts at sample 0, each other where the one before it ends, and the last ends at the last sample. Each
+ * is the longest that fits from its start; its r is the least that fits, 0 for a single sample, and its A the least for
+ * that r. So no track whose every segment fits has fewer segments.
+ * Refusals: 2; and 8 exactly if no track fits the room. FRINGE_MOST_TRACK_NUMBERS are always enough.
  */
-struct fringe_number fringe_track(const int64_t *samples, size_t n, int64_t tolerance, int64_t *room, size_t m);
+struct fringe_number fringe_track(const int64_t *samples, size_t sample_count, int64_t tolerance,
+				  int64_t *room, size_t room_numbers);
 
 /*
- * The delay that a track of `n` numbers predicts at a sample, counted from 0: picoseconds, (A + r j) / 65,536 to the nearest, halves away from zero,
- * with j counted from the segment's first sample. Numbers behind the last whole segment are not read.
- * Refusal 9: no segment covers the sample; or any segment has a length outside 1-1,024, leaves a gap or an overlap, the first is not at 0, there are over
- * 4,096 samples in all, A is beyond 9 10^15 or r beyond 2 10^16 either side, or the prediction at any sample is beyond 131,000,000,000 either side.
+ * The delay that a track predicts at a sample, counted from 0. track_numbers is 4 times the segments that fringe_track
+ * answered. value: ps, (A + r j) / 65,536 to the nearest, halves away from zero, with j counted from the segment's
+ * first sample. Numbers behind the last whole segment are not read.
+ * Refusal 9: no segment covers the sample; or any segment has a length outside 1-1,024, leaves a gap or an overlap, the
+ * first is not at 0, there are over 4,096 samples in all, A is beyond 9 10^15 or r beyond 2 10^16 either side, or the
+ * prediction at any sample is beyond 131,000,000,000 either side. A track that fringe_track made is never malformed.
  */
-struct fringe_number fringe_predict(const int64_t *track, size_t n, uint64_t sample);
+struct fringe_number fringe_predict(const int64_t *track, size_t track_numbers, uint64_t sample);
 
-/* The same prediction as two doubles: seconds, the ps divided once by 1e12; and cycles of the 32 MHz clock, the ps times 32, divided once by 1e6. Refusal: 9. */
-struct fringe_host fringe_host_at(const int64_t *track, size_t n, uint64_t sample);
+/*
+ * The same prediction as two doubles: seconds, the ps divided once by 1e12; and cycles of the 32 MHz clock, the ps
+ * times 32, divided once by 1e6. track_numbers is 4 times the segments that fringe_track answered. Refusal: 9.
+ */
+struct fringe_host fringe_host_at(const int64_t *track, size_t track_numbers, uint64_t sample);
 
 #ifdef __cplusplus
 }
 #endif
+
+/* ---- In this header alone */
+
+/* A pointer to pass with length 0, for numbers and for bytes. Nothing is read or written there. */
+static inline int64_t *fringe_no_numbers(void)
+{
+	static int64_t none;
+	return &none;
+}
+
+static inline uint8_t *fringe_no_bytes(void)
+{
+	static uint8_t none;
+	return &none;
+}
+
+/* A refusal in words. */
+static inline const char *fringe_refusal_text(int64_t refusal)
+{
+	switch (refusal) {
+	case FRINGE_ANSWERED:
+		return "not refused";
+	case FRINGE_WRONG_FILE:
+		return "the contents table, a count or the length of the file is not as it must be";
+	case FRINGE_OUT_OF_RANGE:
+		return "a field or an argument is outside its range";
+	case FRINGE_IDS_DO_NOT_RISE:
+		return "the ids do not rise";
+	case FRINGE_DAYS_NOT_CONSECUTIVE:
+		return "the orientation days are not consecutive";
+	case FRINGE_NOT_THERE:
+		return "the station, source, day or pass asked for is not in the file";
+	case FRINGE_DAY_LACKING:
+		return "the file lacks the orientation record of an epoch's day or of the next day";
+	case FRINGE_ROOM_TOO_SHORT:
+		return "the lent room is too short";
+	case FRINGE_NO_TRACK_FITS:
+		return "no track of the samples fits the lent room";
+	case FRINGE_NOT_PREDICTED:
+		return "the track does not cover the sample, or is malformed";
+	default:
+		return "no refusal has this number";
+	}
+}
+
+/* The name of a section, by its kind. */
+static inline const char *fringe_section_name(int64_t kind)
+{
+	switch (kind) {
+	case FRINGE_KIND_STATION:
+		return "stations";
+	case FRINGE_KIND_SOURCE:
+		return "sources";
+	case FRINGE_KIND_DAY:
+		return "days";
+	case FRINGE_KIND_PASS:
+		return "passes";
+	default:
+		return "no section";
+	}
+}
+
+/* The name of a field of a record, by its section's kind; fields count from 0. */
+static inline const char *fringe_field_name(int64_t kind, int64_t field)
+{
+	static const char *const names[4][8] = {
+		{"id", "X", "Y", "Z"},
+		{"id", "right ascension", "declination"},
+		{"MJD", "x", "y", "UT1-UTC", "TAI-UTC"},
+		{"station 1", "station 2", "source", "MJD", "u", "step", "samples", "tolerance"},
+	};
+	if (kind < 1 || kind > 4 || field < 0 || field > 7 || !names[kind - 1][field])
+		return "no field";
+	return names[kind - 1][field];
+}
 
 #endif
