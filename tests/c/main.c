@@ -1,97 +1,116 @@
 #include "test.h"
+#include "values.h"
 #include <stdio.h>
 #include <string.h>
 
-static int passed, failed;
+static int tests, failed, bad;
+static const char *current;
 
-void same(const char *what, const int64_t *got, const int64_t *want, int n)
+void test(const char *what)
 {
-	for (int i = 0; i < n; i++) {
-		if (got[i] == want[i])
-			continue;
-		printf("FAILED %s: number %d is %lld, not %lld\n", what, i, (long long)got[i], (long long)want[i]);
-		failed++;
-		return;
-	}
-	passed++;
+	current = what;
+	tests++;
+	bad = 0;
 }
 
-void one(const char *what, int64_t got, int64_t want)
+/* the first check of a test that fails is said, and counts */
+static void fails(size_t place, int64_t got, int64_t want)
 {
-	same(what, &got, &want, 1);
+	if (!bad)
+		printf("FAILED %s: number %zu is %lld, not %lld\n", current, place, (long long)got, (long long)want);
+	failed += !bad;
+	bad = 1;
 }
 
-void number(const char *what, struct fringe_number r, int64_t refusal, int64_t value)
+void same(const int64_t *got, const int64_t *want, size_t n)
 {
-	int64_t got[] = {r.refusal, r.value}, want[] = {refusal, value};
-	same(what, got, want, 2);
+	for (size_t i = 0; i < n; i++)
+		if (got[i] != want[i])
+			fails(i, got[i], want[i]);
+}
+
+void one(int64_t got, int64_t want)
+{
+	same(&got, &want, 1);
+}
+
+void number(struct fringe_number r, const int64_t *want)
+{
+	int64_t got[] = {r.refusal, r.value};
+	same(got, want, 2);
+}
+
+void same_bytes(const void *got, const void *want, size_t n)
+{
+	const uint8_t *ours = got, *theirs = want;
+	for (size_t i = 0; i < n; i++)
+		if (ours[i] != theirs[i])
+			fails(i, ours[i], theirs[i]);
 }
 
 /* ---- the lent file */
 
-#define GUARD 64
-static uint8_t lent[GUARD + MOST_BYTES + GUARD], kept[sizeof lent];
-uint8_t *file = lent + GUARD;
-size_t bytes;
+#define GUARD_BYTES 64
+#define MOST_BYTES (FRINGE_ANY_FILE_BYTES + 8)
+static uint8_t bytes[GUARD_BYTES + MOST_BYTES + GUARD_BYTES], kept_bytes[sizeof bytes];
+uint8_t *file = bytes + GUARD_BYTES;
+size_t file_bytes;
 
-void lend(const int64_t *words, size_t length)
+void lend_file(size_t at, int64_t value, size_t length)
 {
-	memset(lent, 0xA5, sizeof lent);
-	memcpy(file, words, length);
-	memcpy(kept, lent, sizeof lent);
-	bytes = length;
+	static uint8_t whole[MOST_BYTES];
+	memset(bytes, 0xA5, sizeof bytes);
+	memcpy(whole, sound, sizeof sound);
+	memcpy(whole + 8 * at, &value, 8);
+	memcpy(file, whole, length);
+	memcpy(kept_bytes, bytes, sizeof bytes);
+	file_bytes = length;
 }
 
-void stays(const char *what)
+void file_stays(void)
 {
-	one(what, memcmp(lent, kept, sizeof lent), 0);
+	same_bytes(bytes, kept_bytes, sizeof bytes);
 }
 
-/* Wettzell and Onsala, two sources, and the days from MJD 60,000 on. */
-const int64_t sound[WORDS] = {
-	4, 1, 104, 2, 2, 168, 2, 3, 216, 3, 4, 336, 2,
-	10, 4075540000, 931735000, 4801629000,
-	20, 3370606000, 711918000, 5349831000,
-	1, 2247483648, 24469000,
-	2, 1058000000, -475000000,
-	60000, 100000, 400000, -20000000, 37,
-	60001, 101000, 401000, -21000000, 37,
-	60002, 102000, 402000, -22000000, 37,
-	10, 20, 1, 60000, 86399000, 1000, 5, 100,
-	20, 10, 2, 60001, 43200000, 250, 4, 0,
-};
-
-int word(int section, int record, int field)
-{
-	static const int first[] = {13, 21, 27, 42}, size[] = {4, 3, 5, 8};
-	return first[section - 1] + record * size[section - 1] + field;
-}
-
-/* ---- the lent room */
+/* ---- lent numbers, and the lent room */
 
 #define GUARDS 16
-static int64_t numbers[GUARDS + MOST_NUMBERS + GUARDS];
-int64_t *room = numbers + GUARDS;
+#define MOST_NUMBERS (GUARDS + ROOM_NUMBERS + GUARDS)
+#define PATTERN 0x5555555555555555
+static int64_t read_only[MOST_NUMBERS], kept[MOST_NUMBERS], memory[MOST_NUMBERS];
+int64_t *lent = read_only + GUARDS, *room = memory + GUARDS;
 
-static int64_t guard(size_t i)
+void lend(const int64_t *numbers, size_t n)
 {
-	return 0x0123456789ABCDEF ^ (int64_t)i;
+	for (int64_t i = 0; i < MOST_NUMBERS; i++)
+		read_only[i] = 7777777 * i - 1;
+	memcpy(lent, numbers, n * sizeof *numbers);
+	memcpy(kept, read_only, sizeof kept);
+}
+
+void lent_stays(void)
+{
+	same(read_only, kept, MOST_NUMBERS);
+}
+
+static int64_t unwritten(int64_t i)
+{
+	return i < GUARDS || i >= GUARDS + ROOM_NUMBERS ? 0x0123456789ABCDEF ^ i : PATTERN;
 }
 
 void empty_room(void)
 {
-	for (size_t i = 0; i < GUARDS + MOST_NUMBERS + GUARDS; i++)
-		numbers[i] = i < GUARDS || i >= GUARDS + MOST_NUMBERS ? guard(i) : PATTERN;
+	for (int64_t i = 0; i < MOST_NUMBERS; i++)
+		memory[i] = unwritten(i);
 }
 
-void holds(const char *what, const int64_t *wanted, size_t n)
+void holds(const int64_t *numbers, size_t n)
 {
-	static int64_t want[GUARDS + MOST_NUMBERS + GUARDS];
-	for (size_t i = 0; i < GUARDS + MOST_NUMBERS + GUARDS; i++)
-		want[i] = i < GUARDS || i >= GUARDS + MOST_NUMBERS ? guard(i) : PATTERN;
-	if (n)
-		memcpy(want + GUARDS, wanted, n * sizeof *wanted);
-	same(what, numbers, want, GUARDS + MOST_NUMBERS + GUARDS);
+	static int64_t want[MOST_NUMBERS];
+	for (int64_t i = 0; i < MOST_NUMBERS; i++)
+		want[i] = unwritten(i);
+	memcpy(want + GUARDS, numbers, n * sizeof *numbers);
+	same(memory, want, MOST_NUMBERS);
 }
 
 int main(void)
@@ -101,6 +120,9 @@ int main(void)
 	writes();
 	delays();
 	tracks();
-	printf("%d passed, %d failed\n", passed, failed);
+	names();
+	limits();
+	empties();
+	printf("%d passed, %d failed\n", tests - failed, failed);
 	return failed > 0;
 }

@@ -1,38 +1,48 @@
-/* The tests of the calls from C: counting, and memory that is lent with guard numbers on both sides. */
+/* The tests of the calls from C: counting, and memory that is lent between guards. */
 #ifndef TEST_H
 #define TEST_H
 
 #include <erlensieg.h>
 
-/* One test: passed if the n numbers got are those wanted. */
-void same(const char *what, const int64_t *got, const int64_t *want, int n);
-void one(const char *what, int64_t got, int64_t want);
-void number(const char *what, struct fringe_number r, int64_t refusal, int64_t value);
+/* each row of a table of values.h */
+#define COUNT(table) (sizeof(table) / sizeof *(table))
+#define EACH(name, row) \
+	(const struct name##_row *row = name##_rows; row < name##_rows + COUNT(name##_rows); row++)
 
-/* The lent session file, between guard bytes. `words` are its numbers; `stays` is a test that neither it nor a guard changed since `lend`. */
-#define MOST_BYTES 65544
+/* Begins a test: an input of one call. It passes if every check up to the next test holds. */
+void test(const char *what);
+void same(const int64_t *got, const int64_t *want, size_t n);
+void one(int64_t got, int64_t want);
+void number(struct fringe_number r, const int64_t *want);
+void same_bytes(const void *got, const void *want, size_t n);
+
+/*
+ * The lent session file, between guard bytes: the sound one with a number changed, cut off or lengthened by zeros to
+ * `length`. `file_stays` is a check that neither it nor a guard has changed since.
+ */
 extern uint8_t *file;
-extern size_t bytes;
-void lend(const int64_t *words, size_t length);
-void stays(const char *what);
+extern size_t file_bytes;
+void lend_file(size_t at, int64_t value, size_t length);
+void file_stays(void);
 
-/* A sound file of 2 stations, 2 sources, 3 days and 2 passes, as numbers, and the place of a field in it. */
-#define WORDS (13 + 2 * 4 + 2 * 3 + 3 * 5 + 2 * 8)
-extern const int64_t sound[WORDS];
-int word(int section, int record, int field);
+/* Numbers that are lent to be read, between guards, and a check that they stay. */
+extern int64_t *lent;
+void lend(const int64_t *numbers, size_t n);
+void lent_stays(void);
 
-/* Lent numbers, filled with a pattern, between guard numbers. */
-#define MOST_NUMBERS 8200
-#define PATTERN 0x5555555555555555
+/* Room for numbers, filled with a pattern, between guards; a check that it holds n numbers, and then the pattern. */
+#define ROOM_NUMBERS 8200
 extern int64_t *room;
 void empty_room(void);
-/* a test that the room holds these n numbers, then the pattern, and that the guards stand */
-void holds(const char *what, const int64_t *numbers, size_t n);
+void holds(const int64_t *numbers, size_t n);
 
 void angles(void);
 void files(void);
 void writes(void);
 void delays(void);
 void tracks(void);
+void names(void);
+void limits(void);
+void empties(void);
 
 #endif

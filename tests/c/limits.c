@@ -1,0 +1,115 @@
+/* The named limits against what the calls do: the limit is taken, and one beyond it is refused. */
+#include "test.h"
+#include "values.h"
+#include <string.h>
+
+static int64_t samples[FRINGE_MOST_SAMPLES + 1];
+
+static void tracked(const char *what, size_t count, int64_t tolerance, size_t numbers, int64_t refusal, int64_t value)
+{
+	empty_room();
+	test(what);
+	number(fringe_track(samples, count, tolerance, room, numbers), (int64_t[]){refusal, value});
+}
+
+/* zeros, one sample at a limit, and then the worst that samples can ask for: no three of them on a line */
+static void of_tracks(void)
+{
+	const size_t all = FRINGE_MOST_TRACK_NUMBERS;
+	const int64_t longest = FRINGE_MOST_SEGMENT_SAMPLES;
+	memset(samples, 0, sizeof samples);
+	tracked("the most samples", FRINGE_MOST_SAMPLES, 0, all, FRINGE_ANSWERED, FRINGE_MOST_SAMPLES / longest);
+	tracked("a sample more", FRINGE_MOST_SAMPLES + 1, 0, all, FRINGE_OUT_OF_RANGE, 0);
+	tracked("the longest segment", FRINGE_MOST_SEGMENT_SAMPLES, 0, all, FRINGE_ANSWERED, 1);
+	tracked("a sample more than it takes", FRINGE_MOST_SEGMENT_SAMPLES + 1, 0, all, FRINGE_ANSWERED, 2);
+	tracked("the greatest tolerance", 1, FRINGE_MOST_TOLERANCE, all, FRINGE_ANSWERED, 1);
+	tracked("a greater tolerance", 1, FRINGE_MOST_TOLERANCE + 1, all, FRINGE_OUT_OF_RANGE, 0);
+	for (int64_t sign = -1; sign <= 1; sign += 2) {
+		samples[0] = sign * FRINGE_MOST_DELAY;
+		tracked("the greatest delay", 1, 0, all, FRINGE_ANSWERED, 1);
+		samples[0] += sign;
+		tracked("a greater delay", 1, 0, all, FRINGE_OUT_OF_RANGE, 0);
+	}
+	for (size_t i = 0; i < FRINGE_MOST_SAMPLES; i++)
+		samples[i] = i % 2 ? 10 : 0;
+	tracked("the most segments", FRINGE_MOST_SAMPLES, 0, all, FRINGE_ANSWERED, FRINGE_MOST_SEGMENTS);
+	tracked("room for one less", FRINGE_MOST_SAMPLES, 0, all - 1, FRINGE_NO_TRACK_FITS, 0);
+}
+
+#define MOST_NUMBERS ((FRINGE_MOST_SOURCES + 1) * FRINGE_PASS_NUMBERS)
+static int64_t lists[4][MOST_NUMBERS];
+static const size_t width[] = {FRINGE_STATION_NUMBERS, FRINGE_SOURCE_NUMBERS, FRINGE_DAY_NUMBERS, FRINGE_PASS_NUMBERS};
+static const size_t most[] = {FRINGE_MOST_STATIONS, FRINGE_MOST_SOURCES, FRINGE_MOST_DAYS, FRINGE_MOST_PASSES};
+
+/* a right value of a field: ids rise, days follow each other, and 1 is right everywhere else */
+static int64_t field_of(size_t list, size_t record, size_t field)
+{
+	if (list == 2 && field == 0)
+		return FRINGE_FIRST_MJD + (int64_t)record;
+	if (list == 3 && field == 3)
+		return FRINGE_FIRST_MJD;
+	return list < 2 && field == 0 ? 1 + (int64_t)record : 1;
+}
+
+/* one record more of each than a file may have */
+static void fill_lists(void)
+{
+	for (size_t i = 0; i < 4; i++)
+		for (size_t j = 0; j < (most[i] + 1) * width[i]; j++)
+			lists[i][j] = field_of(i, j / width[i], j % width[i]);
+}
+
+static uint8_t written[FRINGE_RIGHT_FILE_BYTES];
+
+static void write_counts(const char *what, const size_t *count, size_t room_bytes, int64_t refusal, int64_t wrote)
+{
+	test(what);
+	number(fringe_write(lists[0], count[0] * width[0], lists[1], count[1] * width[1], lists[2], count[2] * width[2],
+			    lists[3], count[3] * width[3], written, room_bytes),
+	       (int64_t[]){refusal, wrote});
+}
+
+static void of_files(void)
+{
+	size_t one_more[4], fewest[] = {1, 1, FRINGE_LEAST_DAYS, 1}, least_bytes = FRINGE_CONTENTS_BYTES;
+	fill_lists();
+	write_counts("the longest file", most, sizeof written, FRINGE_ANSWERED, FRINGE_RIGHT_FILE_BYTES);
+	test("the longest file is right");
+	one(fringe_check(written, sizeof written).refusal, FRINGE_ANSWERED);
+	write_counts("a byte less room", most, sizeof written - 1, FRINGE_ROOM_TOO_SHORT, 0);
+	for (size_t i = 0; i < 4; i++) {
+		memcpy(one_more, most, sizeof most);
+		one_more[i]++;
+		write_counts("one record more", one_more, sizeof written, FRINGE_WRONG_FILE, 0);
+		least_bytes += 8 * width[i] * fewest[i];
+	}
+	write_counts("the fewest records", fewest, sizeof written, FRINGE_ANSWERED, (int64_t)least_bytes);
+	fewest[2]--;
+	write_counts("a day less", fewest, sizeof written, FRINGE_WRONG_FILE, 0);
+	lend_file(0, sound[0], sizeof sound);
+	test("a contents table that is a byte short");
+	one(fringe_fault(file, FRINGE_CONTENTS_BYTES - 1).field, 12);
+	test("a contents table and no more");
+	one(fringe_fault(file, FRINGE_CONTENTS_BYTES).field, 13);
+	test("the greatest id");
+	one(fringe_delay(file, file_bytes, FRINGE_MOST_ID, 1, 1, FRINGE_FIRST_MJD, 0).refusal, FRINGE_NOT_THERE);
+	test("a greater id");
+	one(fringe_delay(file, file_bytes, FRINGE_MOST_ID + 1, 1, 1, FRINGE_FIRST_MJD, 0).refusal, FRINGE_OUT_OF_RANGE);
+}
+
+static void epoch(const char *what, int64_t day, int64_t ms, int64_t refusal)
+{
+	test(what);
+	one(fringe_later(day, ms, 0).refusal, refusal);
+}
+
+void limits(void)
+{
+	of_tracks();
+	of_files();
+	epoch("the first day", FRINGE_FIRST_MJD, 0, FRINGE_ANSWERED);
+	epoch("the day before it", FRINGE_FIRST_MJD - 1, 0, FRINGE_OUT_OF_RANGE);
+	epoch("the last millisecond of the last day", FRINGE_LAST_MJD, FRINGE_LAST_MS, FRINGE_ANSWERED);
+	epoch("the day after it", FRINGE_LAST_MJD + 1, 0, FRINGE_OUT_OF_RANGE);
+	epoch("the millisecond after it", FRINGE_LAST_MJD, FRINGE_LAST_MS + 1, FRINGE_OUT_OF_RANGE);
+}

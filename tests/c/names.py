@@ -1,0 +1,49 @@
+"""What the header names: its limits, by the reference, and the words for sections and fields, those of `tracks`."""
+
+from c.cells import Name
+from program import words
+from reference import earth, session, track
+
+
+def track_limits():
+    segments = (track.MOST_SAMPLES + 1) // 2
+    yield from (("MOST_SAMPLES", track.MOST_SAMPLES), ("MOST_SEGMENTS", segments), ("MOST_TRACK_NUMBERS", 4 * segments))
+    yield from (("MOST_SEGMENT_SAMPLES", track.LONGEST_SEGMENT), ("SEGMENT_NUMBERS", 4))
+    yield from (("MOST_TOLERANCE", track.GREATEST_TOLERANCE), ("MOST_DELAY", track.GREATEST_SAMPLE))
+
+
+def file_limits():
+    most = session.CONTENTS_BYTES + sum(8 * len(fields) * count for _, fields, _, count in session.SECTIONS)
+    yield from (("RIGHT_FILE_BYTES", most), ("ANY_FILE_BYTES", session.LONGEST_FILE))
+    yield from (("CONTENTS_BYTES", session.CONTENTS_BYTES), ("MOST_ID", session.ID[1]))
+    names = (("STATION", "STATIONS"), ("SOURCE", "SOURCES"), ("DAY", "DAYS"), ("PASS", "PASSES"))
+    for (one, many), (kind, fields, _, count) in zip(names, session.SECTIONS):
+        yield from (("KIND_" + one, kind), (one + "_NUMBERS", len(fields)), ("MOST_" + many, count))
+    yield ("LEAST_DAYS", session.SECTIONS[2][2])
+    yield from (("FIRST_MJD", earth.FIRST_DAY), ("LAST_MJD", earth.LAST_DAY), ("LAST_MS", earth.DAY_MS - 1))
+
+
+def limits():
+    named = [*track_limits(), *file_limits()]
+    yield ("limit", "int64_t got, want;", [("FRINGE_" + name, Name("FRINGE_" + name), value) for name, value in named])
+
+
+def section_names():
+    names = dict(enumerate(words.SECTIONS, 1))
+    asked = (-(2**63), -1, 0, 1, 2, 3, 4, 5, 2**63 - 1)
+    rows = [("name of section %d" % kind, kind, names.get(kind, "no section")) for kind in asked]
+    yield ("section_name", "int64_t kind; const char *want;", rows)
+
+
+def field_names():
+    """For each kind each field, and some that are none."""
+    names = {(kind, i): name for kind, fields in enumerate(words.FIELDS, 1) for i, name in enumerate(fields)}
+    asked = [(kind, field) for kind in (0, 1, 2, 3, 4, 5) for field in (-1, *range(9))]
+    asked += [(-(2**63), 0), (2**63 - 1, 0), (1, -(2**63)), (4, 2**63 - 1)]
+    rows = [("name of field %d of kind %d" % place[::-1], *place, names.get(place, "no field")) for place in asked]
+    yield ("field_name", "int64_t kind, field; const char *want;", rows)
+
+
+def tables():
+    for made in (limits, section_names, field_names):
+        yield from made()

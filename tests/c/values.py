@@ -1,0 +1,35 @@
+"""The inputs of the C tests and what the reference answers to each, as tables in a header for C: tests/c/values.h.
+
+`tests/remake` writes it, and `cd tests && python3 -m c.values` it alone. A row is one test: its name, the input of a
+call, and what is wanted.
+"""
+
+import os
+
+from c import filerows, rows
+from c.cells import Cells, number, wrapped
+
+HEAD = """/* Made by tests/remake from the reference: do not edit. A row is one input of a call, and its answer. */
+#ifndef VALUES_H
+#define VALUES_H
+
+#include <erlensieg.h>
+"""
+
+
+def text():
+    cells = Cells()
+    tables = [cells.table(*table) for table in rows.tables()]
+    sound = "static const int64_t sound[%d] = {%s};" % (len(filerows.SOUND), ", ".join(map(number, filerows.SOUND)))
+    return "\n".join([HEAD, wrapped(sound), cells.lists_text(), *tables, "#endif\n"])
+
+
+def files():
+    """Every file that is made: its path and its bytes."""
+    yield (os.path.join(os.path.dirname(os.path.abspath(__file__)), "values.h"), text().encode())
+
+
+if __name__ == "__main__":
+    for path, wanted in files():
+        with open(path, "wb") as file:
+            file.write(wanted)
