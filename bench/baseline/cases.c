@@ -69,7 +69,7 @@ static void delay(void) {
         for (size_t i = 0; i < 6; i++) a[i] = base_word(input, at + 8 * i);
         if (a[0] == 1) {
             struct fringe_earth e = base_orientation(file, n, a[1], a[2]);
-            printf("%" PRId64 " %" PRId64 " %" PRId64 " %" PRId64 " %" PRIu32 "\n", e.refusal, e.x, e.y, e.ut1_utc, e.tick);
+            printf("%" PRId64 " %" PRId64 " %" PRId64 " %" PRId64 " %" PRIu32 "\n", e.refusal, e.x, e.y, e.ut1_used, e.tick);
         } else if (a[0] == 2) {
             answer(base_delay(file, n, a[1], a[2], a[3], a[4], a[5]));
         } else {

@@ -33,8 +33,8 @@ static struct fringe_earth orientation_of(struct day d, int64_t ms, struct minut
     struct fringe_earth answer = {0, line(d, 1, 0, ms), line(d, 2, 0, ms), line(d, 3, leap(d), ms), 0};
     int64_t day = base_word(d.today, 0), n = base_minutes(day, ms, base_word(d.today, 32)), e;
     if (n != kept->n) *kept = (struct minute){n, base_tide_at(n)};
-    answer.ut1_utc += kept->tide;
-    answer.tick = base_turned(day, 1000 * ms + base_floor(answer.ut1_utc, 1000), &e);
+    answer.ut1_used += kept->tide;
+    answer.tick = base_turned(day, 1000 * ms + base_floor(answer.ut1_used, 1000), &e);
     return answer;
 }
 

@@ -55,7 +55,7 @@ def refusal_texts():
 
 
 def linked_and_run(standard, source):
-    """What a source says when it is run, or what a compiler said; it needs nothing of the C++ library, so gcc links it."""
+    """What a source says when it is run, or what a compiler said; it needs nothing of C++ at run time: gcc links it."""
     object_file, program = source + ".o", source + ".out"
     made = compiled(standard, source, [*INCLUDE, "-c", "-o", object_file])
     if made == (0, ""):

@@ -14,6 +14,7 @@ BAD_EPOCHS = [(41_316, 0, 0), (69_807, 0, 0), (51_544, -1, 0), (51_544, 86_400_0
 
 def tick_tables():
     ticks = [0, 1, 2, 3, 2**32 - 1, 2**31 + 2, 2**30, 2**30 - 1, 1_234_567_890, 3_000_000_000, 4_100_000_000]
+    ticks += [1_050_000_001, 1_065_432_109, 2_140_000_003, 3_210_987_654]  # near the end of a quarter
     for name, call in (("sine", sine.sine), ("cosine", sine.cosine)):
         rows = [("%s of %d" % (name, tick), tick, call(tick)) for tick in ticks]
         yield (name, "uint32_t tick; int64_t want;", rows)
