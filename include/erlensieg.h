@@ -95,8 +95,8 @@
  *   sections in that order without gaps, the first at byte 104, the last ending the file. A record, and how many:
  *     kind 1, station       id 1-65,535; X, Y, Z within 6,400,000,000 either side                          1 to 64
  *     kind 2, source        id 1-65,535; right ascension 0 to 2^32 - 1; declination within 2^30            1 to 256
- *     kind 3, day           MJD 41,317-69,806; x, y within 1,000,000; UT1-UTC within 900,000,000;          2 to 64
- *                           TAI-UTC 0-99
+ *     kind 3, day           MJD 41,317-69,806; x, y of the pole within 1,000,000; UT1-UTC within           2 to 64
+ *                           900,000,000, which is UT1R-UTC, see UT1 above; TAI-UTC 0-99
  *     kind 4, pass          ids of station 1, of station 2 and of the source; MJD; u, a UTC millisecond;   1 to 64
  *                           step from one sample to the next, 1-3,600,000 ms; samples, 1-4,096;
  *                           tolerance 0-1,000,000
@@ -111,7 +111,7 @@
 #include <stddef.h>
 #include <stdint.h>
 
-/* 10,000 times the first number of the version, 100 times the second, and the third */
+/* the version; as a number to compare it is 10,000 times the first, and 100 times the second, and the third */
 #define FRINGE_VERSION "0.1.0"
 #define FRINGE_VERSION_NUMBER 100
 

@@ -24,7 +24,7 @@ static void refusal_text(int64_t refusal)
 
 void names(void)
 {
-	for EACH (limit, row) {
+	for EACH (named, row) {
 		test(row->what);
 		one(row->got, row->want);
 	}

@@ -1,8 +1,9 @@
-"""What the header names: its limits, by the reference, and the words for sections and fields, those of `tracks`."""
+"""What the header names: limits and refusals, by the reference; sections and fields, in the words of `tracks`."""
 
 from c.cells import Name
+from c.filerows import FILE, at, changed
 from program import words
-from reference import earth, session, track
+from reference import delay, earth, session, track
 
 
 def track_limits():
@@ -23,9 +24,20 @@ def file_limits():
     yield from (("FIRST_MJD", earth.FIRST_DAY), ("LAST_MJD", earth.LAST_DAY), ("LAST_MS", earth.DAY_MS - 1))
 
 
-def limits():
-    named = [*track_limits(), *file_limits()]
-    yield ("limit", "int64_t got, want;", [("FRINGE_" + name, Name("FRINGE_" + name), value) for name, value in named])
+def refusals():
+    """Each number by an input that is refused with it."""
+    yield from (("ANSWERED", session.refusal(FILE)), ("WRONG_FILE", session.refusal(b"")))
+    yield ("OUT_OF_RANGE", earth.later(0, 0, 0)[0])
+    yield ("IDS_DO_NOT_RISE", session.refusal(changed((at(2, 1, 0), 1))))
+    yield ("DAYS_NOT_CONSECUTIVE", session.refusal(changed((at(3, 1, 0), 60_002))))
+    yield from (("NOT_THERE", session.record_at(FILE, 0, 2)[0]), ("DAY_LACKING", delay.orientation(FILE, 60_002, 0)[0]))
+    yield from (("ROOM_TOO_SHORT", delay.samples(FILE, 0, [])[0]), ("NO_TRACK_FITS", track.track([0], 0, [])[0]))
+    yield ("NOT_PREDICTED", track.predict([], 0)[0])
+
+
+def numbers():
+    named = [*track_limits(), *file_limits(), *refusals()]
+    yield ("named", "int64_t got, want;", [("FRINGE_" + name, Name("FRINGE_" + name), value) for name, value in named])
 
 
 def section_names():
@@ -45,5 +57,5 @@ def field_names():
 
 
 def tables():
-    for made in (limits, section_names, field_names):
+    for made in (numbers, section_names, field_names):
         yield from made()

@@ -505,10 +505,10 @@ static const struct sample_row {
 	{"no pass of a refused file", 32, 60002, 9, 0, {4, 0}, numbers_8},
 };
 
-static const struct limit_row {
+static const struct named_row {
 	const char *what;
 	int64_t got, want;
-} limit_rows[] = {
+} named_rows[] = {
 	{"FRINGE_MOST_SAMPLES", FRINGE_MOST_SAMPLES, 4096},
 	{"FRINGE_MOST_SEGMENTS", FRINGE_MOST_SEGMENTS, 2048},
 	{"FRINGE_MOST_TRACK_NUMBERS", FRINGE_MOST_TRACK_NUMBERS, 8192},
@@ -536,6 +536,16 @@ static const struct limit_row {
 	{"FRINGE_FIRST_MJD", FRINGE_FIRST_MJD, 41317},
 	{"FRINGE_LAST_MJD", FRINGE_LAST_MJD, 69806},
 	{"FRINGE_LAST_MS", FRINGE_LAST_MS, 86399999},
+	{"FRINGE_ANSWERED", FRINGE_ANSWERED, 0},
+	{"FRINGE_WRONG_FILE", FRINGE_WRONG_FILE, 1},
+	{"FRINGE_OUT_OF_RANGE", FRINGE_OUT_OF_RANGE, 2},
+	{"FRINGE_IDS_DO_NOT_RISE", FRINGE_IDS_DO_NOT_RISE, 3},
+	{"FRINGE_DAYS_NOT_CONSECUTIVE", FRINGE_DAYS_NOT_CONSECUTIVE, 4},
+	{"FRINGE_NOT_THERE", FRINGE_NOT_THERE, 5},
+	{"FRINGE_DAY_LACKING", FRINGE_DAY_LACKING, 6},
+	{"FRINGE_ROOM_TOO_SHORT", FRINGE_ROOM_TOO_SHORT, 7},
+	{"FRINGE_NO_TRACK_FITS", FRINGE_NO_TRACK_FITS, 8},
+	{"FRINGE_NOT_PREDICTED", FRINGE_NOT_PREDICTED, 9},
 };
 
 static const struct section_name_row {

@@ -7,7 +7,7 @@ import tempfile
 
 from c import header
 from c.compiler import RUNNER, compiled
-from program import words
+from c.names import words
 from rattle import ROOT
 from reference import delay, session, track
 from scripts.ran import SESSION, contents, ran, refuses, unreadable, without_rt
