@@ -1,25 +1,63 @@
-"""A proved program held to the reference over all its inputs, byte for byte, in what it writes to standard output and to standard error."""
+"""The two proved programs held to the reference: `answers` question by question, in a few long runs; `tracks` file by file."""
 
-import program.cases
+from concurrent.futures import ThreadPoolExecutor
+
+import inputs.program
 import programs
 import rattle
+from inputs.questions import head, stdin_of
 from lines import difference
 
-
-def complaint(crate, stdin, stdout):
-    """What a program writes to standard error: `tracks` what was refused and why, the case programs nothing."""
-    return program.cases.said(stdin, stdout) if crate == "tracks" else b""
+QUESTIONS_IN_A_RUN = 2_500
 
 
-def compare(tally, crate):
-    command, cases = rattle.command(crate), programs.expected(crate)
-    for i, (stdin, wanted) in enumerate(cases):
-        wrote, said, status = rattle.run(command, stdin)
-        tally.equal("%s, input %d: status" % (crate, i), status, 0)
-        tally.check("%s, input %d" % (crate, i), wrote == wanted, difference(wrote, wanted))
-        complained = complaint(crate, stdin, wanted)
-        tally.check("%s, input %d: standard error" % (crate, i), said == complained, difference(said, complained))
-    lines = sum(wanted.count(b"\n") for _, wanted in cases)
-    tally.say("%s: %d runs, %d lines" % (crate, len(cases), lines))
-    for line in programs.CASES[crate].report(cases):
+def lines_of(wrote):
+    """The lines of what a program wrote; one that no line feed ends is kept as it is, and marked."""
+    *lines, rest = wrote.decode(errors="replace").split("\n")
+    return lines + ([rest + " (and no line feed)"] if rest else [])
+
+
+def judge(tally, part, ran):
+    """One run of questions: each has its own lines, the next ones of what was written, and nothing may be left over."""
+    wrote, said, status = ran
+    lines, at = lines_of(wrote), 0
+    for question, wanted in part:
+        got = lines[at:at + len(wanted)]
+        at += len(wanted)
+        tally.check(head(question), got == wanted, difference(got, wanted))
+    ended = (status, said, lines[at:at + 2])
+    if ended != (0, b"", []):
+        tally.check("answers ended with", False, "status %d, standard error %.200r, lines left over %.200r" % ended)
+
+
+def answers(tally, command=None, known=None):
+    """Every question, or those that are given, by `answers` or by a program that answers as it does."""
+    command, known = command or rattle.command("answers"), known or programs.all_questions()
+    parts = [known[i:i + QUESTIONS_IN_A_RUN] for i in range(0, len(known), QUESTIONS_IN_A_RUN)]
+    with ThreadPoolExecutor(programs.AT_A_TIME) as pool:
+        asked = (stdin_of([question for question, _ in part]) for part in parts)
+        for part, ran in zip(parts, pool.map(lambda stdin: rattle.run(command, stdin), asked), strict=True):
+            judge(tally, part, ran)
+    tally.say("%d questions in %d runs" % (len(known), len(parts)))
+
+
+def complaints(file, wanted, ran):
+    """What is wrong about one run of `tracks`: standard output, standard error, or the status."""
+    wrote, said, status = ran
+    reasons = inputs.program.said(file, wanted)
+    for name, got, right in (("standard output", wrote, wanted), ("standard error", said, reasons)):
+        yield "" if got == right else "%s, %s" % (name, difference(lines_of(got), lines_of(right)))
+    yield "" if status == 0 else "status %d" % status
+
+
+def tracks(tally):
+    command, known = rattle.command("tracks"), programs.sessions()
+    with ThreadPoolExecutor(programs.AT_A_TIME) as pool:
+        runs = pool.map(lambda file: rattle.run(command, file), [file for file, _ in known])
+        for i, ((file, wanted), ran) in enumerate(zip(known, runs, strict=True)):
+            tally.nothing_wrong("tracks, file %d" % i, complaints(file, wanted, ran))
+    for line in inputs.program.report(known):
         tally.say(line)
+
+
+COMPARISONS = {"answers": answers, "tracks": tracks}

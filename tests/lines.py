@@ -1,4 +1,6 @@
-"""Lines of numbers: how a case program prints, and where two outputs part."""
+"""Lines of numbers: how the proved programs print, and where two outputs part."""
+
+SHOWN = 100
 
 
 def line(values):
@@ -10,11 +12,17 @@ def text(lines):
     return "".join(each + "\n" for each in lines).encode()
 
 
-def difference(wrote, wanted):
-    """The first line at which two outputs differ, counted from 1, and what each has there."""
-    ours, theirs = wrote.split(b"\n"), wanted.split(b"\n")
-    for i in range(max(len(ours), len(theirs))):
-        one, other = (part[i] if i < len(part) else b"(nothing)" for part in (ours, theirs))
+def parting(one, other):
+    """The first place at which two lines differ."""
+    return next((i for i, pair in enumerate(zip(one, other)) if pair[0] != pair[1]), min(len(one), len(other)))
+
+
+def difference(got, wanted):
+    """Where two lists of lines part, in words, with what each has there; nothing where they are equal."""
+    for i in range(max(len(got), len(wanted))):
+        one, other = (part[i] if i < len(part) else None for part in (got, wanted))
         if one != other:
-            return "line %d: wrote %.120r, wanted %.120r" % (i + 1, one, other)
-    return "none"
+            at = 0 if one is None or other is None else max(0, parting(one, other) - SHOWN // 2)
+            shown = ["no line" if part is None else repr(part[at:at + SHOWN]) for part in (one, other)]
+            return "line %d from character %d: got %s, wanted %s" % (i + 1, at, *shown)
+    return ""

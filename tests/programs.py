@@ -1,39 +1,51 @@
-"""The Rattle programs that are held to the reference: for each crate the module that makes its inputs and says what it prints.
+"""The two proved programs and their inputs, each with what the reference prints for it, worked out once a run.
 
-Such a module has short(), the crate's file `stdin`, inputs(), the standard inputs of its runs, printed(stdin), what the reference
-prints for one, and report(cases), lines that say what is in a list of inputs with what was printed.
+`answers` is asked the questions of each topic; `tracks` is given session files.
 """
 
 from functools import cache
+from multiprocessing import get_context
 
-import delay.cases
-import earth.cases
-import program.cases
-import session.cases
-import session.several
-import session.write
-import track.cases
-import track.fixed
+import inputs.delay
+import inputs.earth
+import inputs.program
+import inputs.session
+import inputs.track
+import inputs.write
+from inputs.questions import lines_of
 
-CASES = {
-    "earth_cases": earth.cases,
-    "session_answers": session.cases,
-    "write_answers": session.write,
-    "delay_answers": delay.cases,
-    "track_answers": track.cases,
-    "session_cases": session.several,
-    "track_cases": track.fixed,
-    "tracks": program.cases,
+TOPICS = {
+    "earth": inputs.earth,
+    "session": inputs.session,
+    "write": inputs.write,
+    "delay": inputs.delay,
+    "track": inputs.track,
 }
 
+PROGRAMS = ("answers", "tracks")
+AT_A_TIME = 2
 
-def cases_of(crate):
-    """The module for a crate: its own, or that of the program whose name its name begins with (tracks_range: tracks)."""
-    return next((module for name, module in CASES.items() if crate == name or crate.startswith(name + "_")), None)
+
+def worked_out(work, given):
+    """The results of a function of many inputs, by two processes that share them out."""
+    with get_context("fork").Pool(AT_A_TIME) as pool:
+        return pool.map(work, given, chunksize=16)
 
 
 @cache
-def expected(crate):
-    """Each standard input of a crate's program and what the reference prints for it, worked out once a run."""
-    module = CASES[crate]
-    return [(stdin, module.printed(stdin)) for stdin in module.inputs()]
+def questions(topic):
+    """Each question of a topic with the lines that the reference prints for it."""
+    asked = TOPICS[topic].questions()
+    return list(zip(asked, worked_out(lines_of, asked)))
+
+
+@cache
+def all_questions():
+    return [known for topic in TOPICS for known in questions(topic)]
+
+
+@cache
+def sessions():
+    """Each session file with what `tracks` prints for it."""
+    files = inputs.program.inputs()
+    return list(zip(files, worked_out(inputs.program.printed, files)))

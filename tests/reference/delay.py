@@ -123,7 +123,7 @@ def samples_of(lists, planned):
     if station1 is None or station2 is None or source is None:
         return (5, [])
     epochs = epochs_of(planned)
-    days = {day: two_days(lists[DAYS], day) for day, _ in epochs}
+    days = {day: two_days(lists[DAYS], day) for day in {day for day, _ in epochs}}
     if any(pair is None for pair in days.values()):
         return (6, [])
     tide_used = kept_tide()

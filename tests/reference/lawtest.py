@@ -23,31 +23,35 @@ def taylor(r):
 
 
 def rounding(tally):
-    tally.check("R rounds halves away from zero", [R(a, 4) for a in range(-6, 7)] == [-2, -1, -1, -1, -1, 0, 0, 0, 1, 1, 1, 1, 2])
+    for a, wanted in zip(range(-6, 7), (-2, -1, -1, -1, -1, 0, 0, 0, 1, 1, 1, 1, 2), strict=True):
+        tally.equal("R(%d/4), halves away from zero" % a, R(a, 4), wanted)
 
 
-def sine_laws(tally, random):
-    ticks = [random.randrange(ONE + 1) for _ in range(400)] + [0, 1, ONE - 1, ONE]
-    tally.check("S within 4 of the Taylor sum", all(abs(S(r) - ONE * taylor(r)) <= 4 for r in ticks))
-    whole = [random.randrange(TURN) for _ in range(400)]
-    tally.check("the sine is odd", all(sine(-a) == -sine(a) for a in whole))
-    tally.check("half a turn negates the sine", all(sine(a + 2**31) == -sine(a) for a in whole))
+def sine_near_its_sum(tally, random):
+    for r in [random.randrange(ONE + 1) for _ in range(400)] + [0, 1, ONE - 1, ONE]:
+        tally.check("S(%d) within 4 of the Taylor sum" % r, abs(S(r) - ONE * taylor(r)) <= 4)
 
 
-def angle_law(tally, random):
+def sine_turned(tally, random):
+    for tick in [random.randrange(TURN) for _ in range(400)]:
+        tally.equal("the sine of %d is odd, and half a turn negates it" % tick, (sine(-tick), sine(tick + 2**31)), 2 * (-sine(tick),))
+
+
+def angle_near_its_fraction(tally, random):
     def distance(day, f):
         turned = Fraction(f, 86_400_000_000) + day - 51_544 - Fraction(1, 2)
         exact = Fraction("0.7790572732640") + Fraction("1.00273781191135448") * turned
         gap = (Fraction(earth.angle_e(day, f), 10**17) - exact) % 1
         return min(gap, 1 - gap)
 
-    cases = [(random.randint(41_317, 69_806), random.randint(earth.LEAST_F, earth.GREATEST_F)) for _ in range(2_000)]
-    tally.check("E within 4/10^11 turn of its fraction", all(distance(*case) <= Fraction(4, 10**11) for case in cases))
+    for _ in range(2_000):
+        day, f = random.randint(41_317, 69_806), random.randint(earth.LEAST_F, earth.GREATEST_F)
+        tally.check("E of day %d, f %d within 4/10^11 turn of its fraction" % (day, f), distance(day, f) <= Fraction(4, 10**11))
 
 
 def tide_bound(tally):
-    tally.equal("tide's bound", sum(abs(row[5]) for row in earth.TIDE_ROWS) * 1_000, 2_723_000)
-    tally.equal("rows of the tide", len(earth.TIDE_ROWS), 41)
+    rows = earth.TIDE_ROWS
+    tally.equal("rows of the tide, and their greatest sum in ns", (len(rows), 1_000 * sum(abs(row[5]) for row in rows)), (41, 2_723_000))
 
 
 def swapped_stations(tally, random):
@@ -59,9 +63,8 @@ def swapped_stations(tally, random):
         source = (1, random.randrange(TURN), number(ONE))
         values = (number(1_000_000), number(1_000_000), 0, random.randrange(TURN))
         there, back = delay.delay_of(*stations, source, values), delay.delay_of(*stations[::-1], source, values)
-        if there != -back or abs(there) > 130_000_000_000:
-            tally.check("swapped stations negate", False, repr((stations, source, values)))
-    tally.check("swapped stations negate", True)
+        right = there == -back and abs(there) <= 130_000_000_000
+        tally.check("swapped stations negate", right, repr((stations, source, values)))
 
 
 def fits(part, tolerance, offset, rate):
@@ -119,48 +122,70 @@ def rough_samples(random, count, size):
     return samples
 
 
+def wrong_segment(samples, tolerance, segment):
+    """What is wrong about a segment of a track, by document 01's words: it fits, and no lesser offset or rate does."""
+    first, count, offset, rate = segment
+    part = samples[first:first + count]
+    below = track.least_offset(part, tolerance, rate - 1)
+    yield "" if fits(part, tolerance, offset, rate) else "%r does not fit" % (segment,)
+    yield "%r has not the least offset" % (segment,) if fits(part, tolerance, offset - 1, rate) else ""
+    yield "%r has not the least rate" % (segment,) if count > 1 and fits(part, tolerance, below, rate - 1) else ""
+
+
+def wrong_track(samples, tolerance):
+    segments = track.track_of(samples, tolerance)
+    yield "" if segments == track_by_pairs(samples, tolerance) else "it is not the track by pairs"
+    yield "" if len(segments) == fewest(samples, tolerance) else "another has fewer segments"
+    for segment in segments:
+        yield from wrong_segment(samples, tolerance, segment)
+
+
 def small_tracks(tally, random):
+    """A track is one test."""
     for _ in range(400):
         samples = rough_samples(random, random.randint(1, 16), random.choice((1, 3, 20, 1_000, 10**10)))
         tolerance = random.choice((0, 1, 2, 5, 1_000))
-        segments = track.track_of(samples, tolerance)
-        case = "%r tolerance %d" % (samples, tolerance)
-        tally.equal("track by pairs, " + case, segments, track_by_pairs(samples, tolerance))
-        tally.equal("fewest segments, " + case, len(segments), fewest(samples, tolerance))
-        for first, count, offset, rate in segments:
-            part = samples[first:first + count]
-            tally.check("segment fits, " + case, fits(part, tolerance, offset, rate))
-            tally.check("offset is least, " + case, not fits(part, tolerance, offset - 1, rate))
-            below = track.least_offset(part, tolerance, rate - 1)
-            tally.check("rate is least, " + case, count == 1 or not fits(part, tolerance, below, rate - 1))
+        tally.nothing_wrong("track of %r tolerance %d:" % (samples, tolerance), wrong_track(samples, tolerance))
 
 
-def long_segments(tally):
-    """Smooth samples: each segment's rate is the least by pairs, and one sample more does not fit."""
+def wrong_long_segment(samples, tolerance, segment):
+    """A long segment's rate is the least by pairs, and one sample more does not fit."""
+    first, count, _, rate = segment
+    least = rates_by_pairs(samples[first:first + count], tolerance)[0]
+    ended = count in (track.LONGEST_SEGMENT, len(samples) - first)
+    longest = ended or not fits_somehow(samples[first:first + count + 1], tolerance)
+    yield "" if rate == least else "segment from %d: rate %d, the least is %d" % (first, rate, least)
+    yield "" if longest else "segment from %d could be longer" % first
+
+
+def long_tracks(tally):
+    """Smooth samples, in segments of hundreds."""
     for bend, tolerance in ((400_000, 30), (40_000, 50), (6_000_000, 4)):
         samples = [R(i * i * i, bend) - 90 * i for i in range(1_300)]
-        for first, count, _, rate in track.track_of(samples, tolerance):
-            tally.equal("least rate of a long segment", rates_by_pairs(samples[first:first + count], tolerance)[0], rate)
-            more = samples[first:first + count + 1]
-            ended = count in (track.LONGEST_SEGMENT, len(samples) - first)
-            tally.check("long segment is the longest", ended or not fits_somehow(more, tolerance))
+        segments = track.track_of(samples, tolerance)
+        wrong = [each for segment in segments for each in wrong_long_segment(samples, tolerance, segment)]
+        tally.nothing_wrong("long track, bend %d:" % bend, wrong + ["it covers nothing" if not segments else ""])
 
 
 def own_tracks_are_well_formed(tally, random):
+    """Samples that leap about: what the track predicts keeps the tolerance, and two samples always fit a segment."""
     for size, tolerance in ((10**11, 1_000_000), (130_000_000_000, 0), (1_000, 10), (130_000_000_000, 1_000_000)):
         samples = [random.randint(-size, size) for _ in range(700)] + [size, -size, size, size, -size, -size]
         flat = [number for segment in track.track_of(samples, tolerance) for number in segment]
-        near = all(abs(track.predict(flat, i)[1] - s) <= tolerance for i, s in enumerate(samples))
-        tally.check("own track is predicted within its tolerance", near and track.predict(flat, 0)[0] == 0)
-        tally.check("segments at most half the samples", len(flat) // 4 <= (len(samples) + 1) // 2)
+        predicted = [track.predict(flat, i) for i in range(len(samples))]
+        near = all(number == 0 and abs(ps - sample) <= tolerance for (number, ps), sample in zip(predicted, samples))
+        short = len(flat) // 4 <= (len(samples) + 1) // 2
+        wrong = ["" if near else "a prediction misses its sample", "" if short else "more segments than pairs of samples"]
+        tally.nothing_wrong("own track, samples within %d, tolerance %d:" % (size, tolerance), wrong)
 
 
 def run(tally):
     numbers = random.Random(20_101)
     rounding(tally)
     tide_bound(tally)
-    long_segments(tally)
-    for part in (sine_laws, angle_law, swapped_stations, small_tracks, own_tracks_are_well_formed):
+    long_tracks(tally)
+    seeded = (sine_near_its_sum, sine_turned, angle_near_its_fraction, swapped_stations, small_tracks, own_tracks_are_well_formed)
+    for part in seeded:
         part(tally, numbers)
 
 

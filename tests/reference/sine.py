@@ -18,7 +18,8 @@ def S(r):
 def sine(tick):
     """The sine of a tick; a negative tick is read modulo 2^32."""
     q, r = divmod(tick % TURN, QUARTER)
-    return (S(r), S(QUARTER - r), -S(r), -S(QUARTER - r))[q]
+    size = S(r) if q in (0, 2) else S(QUARTER - r)
+    return size if q in (0, 1) else -size
 
 
 def cosine(tick):

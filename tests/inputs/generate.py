@@ -1,7 +1,6 @@
-#!/usr/bin/env python3
-"""The session files that the comparisons run over: sound and damaged ones, the same for the same seed.
+"""The session files that the comparisons run over: sound and damaged ones, the same for the same seed, then the chosen ones.
 
-    python3 tests/generate.py [FOLDER]
+    cd tests && python3 -m inputs.generate [FOLDER]
 
 prints how often each refusal and each trap occurs, and writes the files to FOLDER where one is named.
 """
@@ -9,22 +8,23 @@ prints how often each refusal and each trap occurs, and writes the files to FOLD
 import os
 import random
 import sys
+from functools import cache
 
-import damaged
-import features
-import sound
 from reference.session import encode
+
+from . import chosen, damaged, features, sound
 
 SEED = 41_317
 SOUND, DAMAGED_OF_EACH_KIND = 330, 45
 
 
+@cache
 def files(seed=SEED, sound_count=SOUND, each=DAMAGED_OF_EACH_KIND):
     numbers = random.Random(seed)
     full = sound.full_session(numbers)
     sessions = [full, *sound.sessions(numbers, sound_count)]
     small = [session for session in sessions if len(session[3]) < 13 and max(planned[6] for planned in session[3]) < 100]
-    return [encode(session) for session in sessions] + damaged.files(numbers, full, small, each)
+    return [*map(encode, sessions), *damaged.files(numbers, full, small, each), *chosen.files()]
 
 
 def main():

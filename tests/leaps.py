@@ -2,12 +2,11 @@
 
 from unittest.mock import patch
 
-import leapseconds
 import rattle
+from inputs import leapseconds
+from inputs.questions import ORIENTATION, Question, stdin_of
 from reference import delay, earth, session
 from tally import alone
-
-from . import cases
 
 NOON, LAST_MS = 43_200_000, 86_399_999
 SECOND, TENTH_OF_A_MS = 10**9, 100_000
@@ -16,9 +15,12 @@ SECOND, TENTH_OF_A_MS = 10**9, 100_000
 def ut1_used(days, epochs):
     """UT1-UTC as the program uses it at some epochs, for a session with these days."""
     file = session.encode(([(1, 0, 0, 0)], [(1, 0, 0)], days, [(1, 1, 1, days[0][0], 0, 1, 1, 0)]))
-    questions = [(cases.ORIENTATION, *epoch, 0, 0, 0) for epoch in epochs]
-    wrote, _, _ = rattle.run(rattle.command("delay_answers"), cases.stdin_of(file, questions))
-    return [int(line.split()[3]) for line in wrote.splitlines()]
+    asked = [Question(ORIENTATION, *epoch, lent=file) for epoch in epochs]
+    wrote, _, _ = rattle.run(rattle.command("answers"), stdin_of(asked))
+    answers = [[int(number) for number in line.split()] for line in wrote.splitlines()]
+    if [number for number, *_ in answers] != [0] * len(epochs):
+        raise ValueError("answers did not answer %r" % epochs)
+    return [ut1 for _, _, _, ut1, _ in answers]
 
 
 def ut1_tai(days, epochs):
@@ -37,36 +39,37 @@ def old_step(days, day):
         return ut1_at(day + 1, 0) - ut1_at(day, LAST_MS)
 
 
-def the_night(tally, days, day):
+def over_the_night(days, day):
+    """UT1-TAI does not step; by the rule before L1 it stepped by nearly a second."""
     before, after = ut1_tai(days, [(day, LAST_MS), (day + 1, 0)])
-    tally.check("UT1-TAI goes on over the night of %d" % day, abs(after - before) <= 1, "it steps by %d ns" % (after - before))
     old = abs(old_step(days, day))
-    tally.check("it stepped by nearly a second by the old rule", 999 * SECOND < 1_000 * old <= 1_000 * SECOND, "by %d ns" % old)
+    yield "" if abs(after - before) <= 1 else "UT1-TAI steps by %d ns" % (after - before)
+    yield "" if 999 * SECOND < 1_000 * old <= 1_000 * SECOND else "by the old rule it stepped by %d ns" % old
 
 
-def noon(tally, days, day):
+def at_noon(days, day):
     """Midway between 0h and 0h, and between the noons of the day before and the day after."""
-    at_noon, *others = ut1_tai(days, [(day, NOON), (day, 0), (day + 1, 0), (day - 1, NOON), (day + 1, NOON)])
+    noon, *others = ut1_tai(days, [(day, NOON), (day, 0), (day + 1, 0), (day - 1, NOON), (day + 1, NOON)])
     for name, neighbours in (("0h", others[:2]), ("noons", others[2:])):
-        apart = abs(2 * at_noon - sum(neighbours))
-        tally.check("UT1-TAI at noon of %d, by %s" % (day, name), apart <= 2 * TENTH_OF_A_MS, "%d ns from the mean" % (apart // 2))
+        apart = abs(2 * noon - sum(neighbours))
+        yield "" if apart <= 2 * TENTH_OF_A_MS else "noon is %d ns from the mean of the %s" % (apart // 2, name)
 
 
-def the_line(tally, published, day):
+def at_its_end(published, day):
     """Drawn between published values, and without the tide, the line ends at the next day's UT1."""
     tomorrow = delay.named(published, day + 1)
     tide = earth.tide_at(earth.minutes(day, LAST_MS, delay.named(published, day)[4]))
     [used] = ut1_used(published, [(day, LAST_MS)])
     apart = abs(used - tide - (tomorrow[3] - SECOND))
-    tally.check("the line at the end of %d" % day, apart <= TENTH_OF_A_MS, "%d ns from UT1" % apart)
+    yield "" if apart <= TENTH_OF_A_MS else "the line ends %d ns from UT1" % apart
 
 
 def run(tally):
+    """A night is one test."""
     for published in leapseconds.published():
         days, day = leapseconds.as_filed(published), leapseconds.last_day_before(published)
-        the_night(tally, days, day)
-        noon(tally, days, day)
-        the_line(tally, published, day)
+        wrong = [*over_the_night(days, day), *at_noon(days, day), *at_its_end(published, day)]
+        tally.nothing_wrong("the leap second at the end of %d" % day, wrong)
 
 
 if __name__ == "__main__":

@@ -1,33 +1,21 @@
-"""Seeded inputs of the crate `earth_cases`, and what the reference prints for them: the format stands in ../README.md."""
+"""Questions on Earth rotation: document 01's, each argument at the ends of its range, and seeded ones."""
 
 import random
-import struct
 
-from lines import line, text
 from reference import earth
-from reference.sine import TURN, sine
+from reference.sine import TURN
 
-SINE, ARGUMENTS, TIDE, ANGLE, LATER, ROTATE = range(1, 7)
+from .questions import ANGLE, ARGUMENTS, COSINE, LATER, ROTATE, SINE, TIDE, Question
+
+OF_A_TICK, OF_A_DAY = (SINE, COSINE, ROTATE), (ARGUMENTS, TIDE, ANGLE, LATER)
 EXTREMES = (-(2**63), 2**63 - 1, -1, 0, 2**32, -(2**32))
-
-
-def answer(what, a, b, c):
-    calls = {
-        SINE: lambda: (sine(a),),
-        ARGUMENTS: lambda: earth.arguments(a, b, c),
-        TIDE: lambda: earth.tide(a, b, c),
-        ANGLE: lambda: earth.angle_at(a, b),
-        LATER: lambda: earth.later(a, b, c),
-        ROTATE: lambda: earth.rotate(a),
-    }
-    return calls[what]()
 
 
 def document_cases():
     """The numbers of document 01."""
-    yield from ((SINE, tick, 0, 0) for tick in (0, 1, 2, 3, 2**32 - 1, 2**31 + 2))
+    yield from ((SINE, tick) for tick in (0, 1, 2, 3, 2**32 - 1, 2**31 + 2))
     yield from ((ARGUMENTS, 51_544, ms, 32) for ms in (43_135_815, 43_135_816, 43_195_815, 43_195_816))
-    yield from ((ANGLE, 51_544, f, 0) for f in (43_200_000_000, 0))
+    yield from ((ANGLE, 51_544, f) for f in (43_200_000_000, 0))
 
 
 def edges(low, high):
@@ -41,14 +29,15 @@ def edge_cases():
         yield from ((what, day, 40_000_000, 37) for day in days + EXTREMES)
         yield from ((what, 44_239, u, 19) for u in ms + EXTREMES)
         yield from ((what, 59_000, 77, leap) for leap in tai + EXTREMES)
-    yield from ((ANGLE, day, 5, 0) for day in days + EXTREMES)
-    yield from ((ANGLE, 47_892, f, 0) for f in edges(earth.LEAST_F, earth.GREATEST_F) + EXTREMES)
+    yield from ((ANGLE, day, 5) for day in days + EXTREMES)
+    yield from ((ANGLE, 47_892, f) for f in edges(earth.LEAST_F, earth.GREATEST_F) + EXTREMES)
     yield from ((LATER, day, 86_399_999, 1) for day in days + EXTREMES)
     yield from ((LATER, 41_500, u, 86_400_000) for u in ms + EXTREMES)
     yield from ((LATER, 69_806, 86_399_999, add) for add in edges(0, earth.MOST_ADDED) + EXTREMES)
     for quarter in range(5):
         near = [(quarter * 2**30 + step) % TURN for step in (-2, -1, 0, 1, 2)]
-        yield from ((what, tick, 0, 0) for what in (SINE, ROTATE) for tick in near)
+        yield from ((what, tick) for what in OF_A_TICK for tick in near)
+    yield from ((what, tick) for what in OF_A_TICK for tick in EXTREMES)
 
 
 def some_day(numbers):
@@ -72,7 +61,7 @@ def some_addition(numbers, ms):
 
 def some_case(numbers):
     what = numbers.choice((SINE, ARGUMENTS, ARGUMENTS, TIDE, TIDE, ANGLE, ANGLE, LATER, ROTATE))
-    if what in (SINE, ROTATE):
+    if what in OF_A_TICK:
         return (what, numbers.randrange(TURN), 0, 0)
     day, ms = some_day(numbers), numbers.randrange(86_400_000)
     if what == ANGLE:
@@ -83,44 +72,29 @@ def some_case(numbers):
 
 
 def some_damaged_case(numbers):
-    """An input with one argument anywhere in 64 bits."""
+    """A question with one argument anywhere in 64 bits."""
     case = list(some_case(numbers))
-    if case[0] not in (SINE, ROTATE):
+    if case[0] not in OF_A_TICK:
         case[numbers.randint(1, 3)] = numbers.randint(-(2**63), 2**63 - 1) >> numbers.randrange(64)
-    return tuple(case)
+    return case
 
 
-def cases(seed=11_501, sound=11_000, damaged=700):
-    """All inputs, in order: document 01's, the edges, then seeded ones."""
+def cosines(numbers, count):
+    """Ticks anywhere in 64 bits, which are read modulo 2^32."""
+    return [(COSINE, numbers.randint(-(2**63), 2**63 - 1) >> numbers.randrange(64)) for _ in range(count)]
+
+
+def questions(seed=11_501, sound=11_000, damaged=700):
     numbers = random.Random(seed)
-    return [
+    cases = [
         *document_cases(),
         *edge_cases(),
         *(some_case(numbers) for _ in range(sound)),
         *(some_damaged_case(numbers) for _ in range(damaged)),
+        *cosines(numbers, 1_000),
     ]
+    return [Question(*case) for case in cases]
 
 
-def stdin_of(made):
-    return b"".join(struct.pack("<4q", *case) for case in made)
-
-
-def short():
-    return stdin_of([*document_cases(), *edge_cases()])
-
-
-def inputs():
-    return [stdin_of(cases())]
-
-
-def printed(stdin):
-    return text(line(answer(*case)) for case in struct.iter_unpack("<4q", stdin))
-
-
-def report(cases):
-    made = [case for stdin, _ in cases for case in struct.iter_unpack("<4q", stdin)]
-    dated = [case for case in made if case[0] in (ARGUMENTS, TIDE, ANGLE, LATER)]
-    yield "%6d questions" % len(made)
-    yield "%6d of them with a day" % len(dated)
-    yield "%6d of these before 51,544" % sum(case[1] < 51_544 for case in dated)
-    yield "%6d of these refused" % sum(answer(*case)[0] == 2 for case in dated)
+def document():
+    return [Question(*case) for case in document_cases()]

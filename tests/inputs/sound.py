@@ -3,10 +3,11 @@
 Passes of them may be refused: some name an id that is not there, some reach an epoch that the orientation days do not cover.
 """
 
-import leapseconds
 from reference.delay import orientation_of
 from reference.earth import DAY_MS
 from reference.sine import TURN, cosine
+
+from . import leapseconds
 
 GREATEST_LENGTH = 6_400_000_000
 GREATEST_POLE = 1_000_000

@@ -1,9 +1,13 @@
-"""Lent tracks for predict and host_at: our own, ones near the limits of refusal 9, and ones past them."""
+"""Questions on predictions from lent tracks: chosen ones, our own, ones near the limits of refusal 9, and ones past them."""
+
+import random
 
 from reference import track
 
-from . import cases as kinds
+from .questions import HOST, PREDICT, Question, lent_numbers
+from .samples import some_samples, some_tolerance
 
+LIMIT = track.GREATEST_PREDICTION
 EXTREMES = (2**63 - 1, -(2**63), 10**18, -(10**18))
 EDGES = {
     0: (-1, 1, 4_095),
@@ -12,13 +16,31 @@ EDGES = {
     3: (2 * 10**16, -2 * 10**16, 2 * 10**16 + 1, -2 * 10**16 - 1),
 }
 
+CHOSEN = [
+    *(([0, 3, 65_536, -32_768], sample) for sample in range(4)),
+    ([0, 3, -65_536, 32_768], 1),
+    ([0, 2, 262_144, 131_072, 2, 1, -262_144, 0, 7, 7, 7], 2),
+    ([0, 2, 262_144, 131_072, 3, 1, -262_144, 0], 0),
+    ([1, 2, 262_144, 131_072], 1),
+    ([0, 1_025, 0, 0], 0),
+    ([0, 0, 0, 0], 0),
+    ([0, 1, 9_000_000_000_000_001, 0], 0),
+    ([0, 1, 0, 20_000_000_000_000_001], 0),
+    ([0, 1, 8_585_216_000_032_767, 0], 0),
+    ([0, 1, 8_585_216_000_032_768, 0], 0),
+    ([0, 1_024, 0, 20_000_000_000_000_000], 0),
+    ([0, 1, 0, -20_000_000_000_000_000], 0),
+    ([0, 1, 0], 0),
+    ([0, 1, 0, 0], 2**64 - 1),
+]
+
 
 def flat(segments):
     return [number for segment in segments for number in segment]
 
 
 def own(numbers):
-    return flat(track.track_of(kinds.some_samples(numbers), kinds.some_tolerance(numbers)))
+    return flat(track.track_of(some_samples(numbers), some_tolerance(numbers)))
 
 
 def changed(numbers):
@@ -34,7 +56,7 @@ def free(numbers):
     segments, start = [], 0
     for _ in range(numbers.randint(1, 6)):
         count = numbers.choice((1, 2, 3, 1_024, numbers.randint(1, 1_024)))
-        ends = [numbers.choice((131_000_000_000, -131_000_000_000, numbers.randint(-131_000_000_000, 131_000_000_000))) for _ in range(2)]
+        ends = [numbers.choice((LIMIT, -LIMIT, numbers.randint(-LIMIT, LIMIT))) for _ in range(2)]
         offset = 65_536 * ends[0] + numbers.choice((0, 32_767, 32_768, -32_767, -32_768, 0, 0))
         rate = 65_536 * (ends[1] - ends[0]) // max(1, count - 1) if numbers.random() < 0.7 else numbers.randint(-200, 200)
         segments.append((start, count, offset, rate))
@@ -44,7 +66,8 @@ def free(numbers):
 
 def halves(numbers):
     """Predictions that lie at a half, above and below zero."""
-    return [0, 5, numbers.choice((-1, 1)) * (65_536 * numbers.randrange(3) + 32_768), numbers.choice((0, 65_536, -65_536, 32_768))]
+    offset = numbers.choice((-1, 1)) * (65_536 * numbers.randrange(3) + 32_768)
+    return [0, 5, offset, numbers.choice((0, 65_536, -65_536, 32_768))]
 
 
 def full(last):
@@ -63,8 +86,18 @@ def some_lent(numbers):
     return numbers.choice((own, changed, changed, free, halves))(numbers)
 
 
-def cases(numbers, count=700):
+def of_seeded_tracks(numbers, count):
     tracks = [[], [0], [0, 1, 0], [0, 1, 5, 6], full(0), full(1), [0, 0, 0, 0], [0, 1, 5, 6, 7, 8, 9]]
     for lent in tracks + [some_lent(numbers) for _ in range(count)]:
         for sample in samples_asked(numbers, lent):
-            yield (numbers.choice((kinds.PREDICT, kinds.HOST)), lent, sample, 0)
+            yield Question(numbers.choice((PREDICT, HOST)), sample, lent=lent_numbers(lent))
+
+
+def of_chosen_tracks():
+    """Document 01's track, joins and gaps, and each limit of refusal 9 at its end and past it."""
+    for lent, sample in CHOSEN:
+        yield from (Question(what, sample, lent=lent_numbers(lent)) for what in (PREDICT, HOST))
+
+
+def questions(numbers):
+    return [*of_seeded_tracks(numbers, 700), *of_seeded_tracks(random.Random(9), 40), *of_chosen_tracks()]

@@ -1,11 +1,9 @@
 """What the program `tracks` writes to standard output and to standard error, by the reference."""
 
-import features
-import generate
 from lines import text
-from reference import program, session
+from reference import program, session, words
 
-from . import words
+from . import features, generate
 
 
 def short():

@@ -1,9 +1,10 @@
 """Every wrong program of the must-fail edits is refused by itself, at the place that its edit names.
 
-An edit makes several functions wrong at once, one program of each, and its head has a line for each of them: `# NAME (FUNCTION, PLACE): what it does`.
-`rt` calls an edit refused where one function is; the log of its check has the errors of all. PLACE is where the first error of the function's own proof
-stands; an error that only says that another was not admitted is none of its own. A law stands for a function by its file.
-The logs are those of `rt ci`; where one is missing or older than its crate, `rt must-fail` makes them all anew.
+An edit makes several functions wrong at once, one program of each, and its head has a line for each of them:
+`# NAME (FUNCTION, PLACE): what it does`. `rt` calls an edit refused where one function is; the log of its check has the
+errors of all. PLACE is where the first error of the function's own proof stands; an error that only says that another was
+not admitted is none of its own. A law stands for a function by its file. The logs are those of `rt ci`; where one is missing
+or older than its crate, `rt must-fail` makes them all anew.
 """
 
 import glob
@@ -57,7 +58,8 @@ def fresh(crate, edit):
     """Whether there is a log that is as new as the crate."""
     if not os.path.exists(log_path(crate, edit)):
         return False
-    files = [os.path.join(folder, name) for folder, _, names in os.walk(os.path.join(ROOT, "crates", crate)) for name in names]
+    folders = os.walk(os.path.join(ROOT, "crates", crate))
+    files = [os.path.join(folder, name) for folder, _, names in folders for name in names]
     return os.path.getmtime(log_path(crate, edit)) >= max(map(os.path.getmtime, files))
 
 
@@ -75,12 +77,19 @@ def first_error(log, wrong):
     return closed and closed.group(1)
 
 
+def wrong_head(crate, edit, programs):
+    """What is wrong about the head of an edit: each line names a wrong program, and no two are of one function."""
+    lines = head(crate, edit)
+    functions = [wrong.function for wrong in programs if (wrong.crate, wrong.edit) == (crate, edit)]
+    yield "" if lines else "it is empty"
+    yield from ("%r names no wrong program" % line for line in lines if not HEAD.fullmatch(line))
+    yield from ("%s is wrong twice" % function for function in sorted(set(functions)) if functions.count(function) > 1)
+
+
 def check_heads(tally, programs):
+    """An edit is one test."""
     for crate, edit in edits():
-        tally.check("each line of the head of %s/%s names a wrong program" % (crate, edit), all(HEAD.fullmatch(line) for line in head(crate, edit)))
-    for wrong in programs:
-        same = [other for other in programs if (other.crate, other.edit, other.function) == (wrong.crate, wrong.edit, wrong.function)]
-        tally.check("%s of %s is the only wrong program of its function in its edit" % (wrong.name, wrong.crate), len(same) == 1)
+        tally.nothing_wrong("the head of %s/%s:" % (crate, edit), wrong_head(crate, edit, programs))
 
 
 def listed():
@@ -94,13 +103,16 @@ def listed():
 
 def check_page(tally, programs):
     """docs/CALLS.md names each wrong program, and in its tables no other."""
-    names = {wrong.name for wrong in programs}
-    said = set(re.findall(r"`(\w+)`", text("docs", "CALLS.md")))
-    tally.equal("wrong programs that docs/CALLS.md does not name", sorted(names - said), [])
-    tally.equal("what docs/CALLS.md lists and no edit has", sorted(set(listed()) - names), [])
+    names, said = {wrong.name for wrong in programs}, set(re.findall(r"`(\w+)`", text("docs", "CALLS.md")))
+    tally.nothing_wrong("wrong programs of docs/CALLS.md:", [
+        "" if names else "there are none",
+        *("%s is not named" % name for name in sorted(names - said)),
+        *("%s is listed and no edit has it" % name for name in sorted(set(listed()) - names)),
+    ])
 
 
 def run(tally):
+    """Each wrong program is one test, beside those of heads and page."""
     programs = wrong_programs()
     check_heads(tally, programs)
     check_page(tally, programs)
@@ -108,6 +120,7 @@ def run(tally):
         tally.say("wrong programs: a log is missing or older than its crate; `rt must-fail` makes them anew")
         subprocess.run(["rt", "must-fail"], cwd=ROOT, stdout=subprocess.DEVNULL, stderr=subprocess.DEVNULL)
     for wrong in programs:
-        log = text(log_path(wrong.crate, wrong.edit)) if os.path.exists(log_path(wrong.crate, wrong.edit)) else ""
+        path = log_path(wrong.crate, wrong.edit)
+        log = text(path) if os.path.exists(path) else ""
         tally.equal("%s: %s is refused at" % (wrong.name, wrong.function), first_error(log, wrong), wrong.place)
     tally.say("wrong programs: %d in %d edits" % (len(programs), len(edits())))
