@@ -5,10 +5,11 @@ from concurrent.futures import ThreadPoolExecutor
 import inputs.program
 import programs
 import rattle
-from inputs.questions import head, stdin_of
+from inputs.questions import SINE, Question, head, stdin_of
 from lines import difference
 
 QUESTIONS_IN_A_RUN = 2_500
+CUT_HEAD = stdin_of([Question(SINE)])[:-1]
 
 
 def lines_of(wrote):
@@ -18,24 +19,29 @@ def lines_of(wrote):
 
 
 def judge(tally, part, ran):
-    """One run of questions: each has its own lines, the next ones of what was written, and nothing may be left over."""
+    """One run of questions: each has its own lines, the next ones of what was written, and nothing may be left over.
+
+    A question that is not answered is no test of its own: a line for it would be taken for the next one's.
+    """
     wrote, said, status = ran
-    lines, at = lines_of(wrote), 0
-    for question, wanted in part:
-        got = lines[at:at + len(wanted)]
-        at += len(wanted)
-        tally.check(head(question), got == wanted, difference(got, wanted))
+    lines, at = lines_of(wrote), sum(len(wanted) for _, wanted in part)
     ended = (status, said, lines[at:at + 2])
     if ended != (0, b"", []):
         tally.check("answers ended with", False, "status %d, standard error %.200r, lines left over %.200r" % ended)
+    at = 0
+    for question, wanted in part:
+        got = lines[at:at + len(wanted)]
+        at += len(wanted)
+        if wanted:
+            tally.check(head(question) + ":", got == wanted, difference(got, wanted))
 
 
 def answers(tally, command=None, known=None):
-    """Every question, or those that are given, by `answers` or by a program that answers as it does."""
+    """Every question, or those that are given, by `answers` or by a program that reads as it does; a cut head ends each run."""
     command, known = command or rattle.command("answers"), known or programs.all_questions()
     parts = [known[i:i + QUESTIONS_IN_A_RUN] for i in range(0, len(known), QUESTIONS_IN_A_RUN)]
     with ThreadPoolExecutor(programs.AT_A_TIME) as pool:
-        asked = (stdin_of([question for question, _ in part]) for part in parts)
+        asked = (stdin_of([question for question, _ in part]) + CUT_HEAD for part in parts)
         for part, ran in zip(parts, pool.map(lambda stdin: rattle.run(command, stdin), asked), strict=True):
             judge(tally, part, ran)
     tally.say("%d questions in %d runs" % (len(known), len(parts)))

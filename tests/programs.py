@@ -8,6 +8,7 @@ from multiprocessing import get_context
 
 import inputs.delay
 import inputs.earth
+import inputs.lending
 import inputs.program
 import inputs.session
 import inputs.track
@@ -15,6 +16,7 @@ import inputs.write
 from inputs.questions import lines_of
 
 TOPICS = {
+    "lending": inputs.lending,
     "earth": inputs.earth,
     "session": inputs.session,
     "write": inputs.write,

@@ -1,106 +1,96 @@
-/* Answers the questions of the tests with the baseline, in the formats of tests/README.md:
-   `cases earth`, `cases check` (the first line of session_answers alone), `cases write`, `cases delay`,
-   `cases track` (the tracks of track_answers; predictions are not asked). */
+/* Answers the questions of the tests with the baseline, in the format of tests/README.md: the calls that the baseline has, and no others. */
 #include "baseline.h"
 
 #include <inttypes.h>
 #include <stdio.h>
-#include <stdlib.h>
 #include <string.h>
 
-static uint8_t input[1 << 24];
+#define MOST_LENT 65600
+#define MOST_NUMBERS 8200
+#define MOST_BYTES 16384
+
+static uint8_t lent[MOST_LENT], bytes[MOST_BYTES];
+static int64_t numbers[MOST_LENT / 8], room[MOST_NUMBERS];
 static size_t length;
-static int64_t room[8200];
-static uint8_t bytes[16384];
 
-static int64_t number(size_t index) { return base_word(input, 8 * index); }
+static void print(const int64_t *values, size_t n) {
+    for (size_t i = 0; i < n; i++) printf("%s%" PRId64, i ? " " : "", values[i]);
+    printf("\n");
+}
 
-static void answer(struct fringe_number a) { printf("%" PRId64 " %" PRId64 "\n", a.refusal, a.value); }
+static void answer(struct fringe_number a) { print((int64_t[]){a.refusal, a.value}, 2); }
 
-static void earth(void) {
-    for (size_t i = 0; i + 3 < length / 8; i += 4) {
-        int64_t a = number(i + 1), b = number(i + 2), c = number(i + 3);
-        int64_t s = base_sine((uint32_t)a), cosine = base_cosine((uint32_t)a);
-        struct fringe_ticks t;
-        struct fringe_angle angle;
-        struct fringe_epoch e;
-        switch (number(i)) {
-        case 1: printf("%" PRId64 "\n", s); break;
-        case 2:
-            t = base_arguments(a, b, c);
-            printf("%" PRId64 " %" PRId64 " %" PRIu32 " %" PRIu32 " %" PRIu32 " %" PRIu32 " %" PRIu32 "\n", t.refusal, t.n, t.l, t.lp, t.f, t.d, t.om);
-            break;
-        case 3: answer(base_tide(a, b, c)); break;
-        case 4: angle = base_angle_at(a, b), printf("%" PRId64 " %" PRId64 " %" PRIu32 "\n", angle.refusal, angle.e, angle.tick); break;
-        case 5: e = base_later(a, b, c), printf("%" PRId64 " %" PRId64 " %" PRId64 "\n", e.refusal, e.day, e.ms); break;
-        default: printf("%" PRId64 " %" PRId64 " 0 %" PRId64 " %" PRId64 " 0 0 0 1073741824\n", cosine, -s, s, cosine);
-        }
+static void fill(size_t m) {
+    for (size_t i = 0; i < m; i++) room[i] = 0x5555555555555555;
+}
+
+static void of_an_angle(const int64_t q[8]) {
+    int64_t s = base_sine((uint32_t)q[1]), c = base_cosine((uint32_t)q[1]);
+    struct fringe_ticks t;
+    struct fringe_angle angle;
+    struct fringe_epoch e;
+    switch (q[0]) {
+    case 1: print(&s, 1); break;
+    case 2: print(&c, 1); break;
+    case 3: t = base_arguments(q[1], q[2], q[3]), print((int64_t[]){t.refusal, t.n, t.l, t.lp, t.f, t.d, t.om}, 7); break;
+    case 4: answer(base_tide(q[1], q[2], q[3])); break;
+    case 5: angle = base_angle_at(q[1], q[2]), print((int64_t[]){angle.refusal, angle.e, angle.tick}, 3); break;
+    case 6: e = base_later(q[1], q[2], q[3]), print((int64_t[]){e.refusal, e.day, e.ms}, 3); break;
+    case 7: print((int64_t[]){c, -s, 0, s, c, 0, 0, 0, 1 << 30}, 9); break;
     }
 }
 
-static void check(void) {
-    struct fringe_counts c = base_check(input, length);
-    printf("%" PRId64 " %" PRId64 " %" PRId64 " %" PRId64 " %" PRId64 "\n", c.refusal, c.stations, c.sources, c.days, c.passes);
+static void of_a_file(const int64_t q[8]) {
+    struct fringe_counts c;
+    struct fringe_earth e;
+    switch (q[0]) {
+    case 8: c = base_check(lent, length), print((int64_t[]){c.refusal, c.stations, c.sources, c.days, c.passes}, 5); break;
+    case 14: e = base_orientation(lent, length, q[1], q[2]), print((int64_t[]){e.refusal, e.x, e.y, e.ut1_used, e.tick}, 5); break;
+    case 15: answer(base_delay(lent, length, q[1], q[2], q[3], q[4], q[5])); break;
+    }
 }
 
-static void write_file(void) {
-    static int64_t numbers[4][4096];
+static void with_numbers(const int64_t q[8], size_t m) {
+    if (m > MOST_NUMBERS) return;
+    fill(m);
+    if (q[0] == 16) answer(base_samples(lent, length, (uint64_t)q[1], room, m));
+    else answer(base_track(numbers, length / 8, q[1], room, m));
+    print(room, m);
+}
+
+static void with_bytes(const int64_t q[8], size_t m) {
     const int64_t *lists[4];
-    size_t lengths[4], at = 5, m = (size_t)number(4);
+    size_t lengths[4], at = 0, count = length / 8;
+    if (m > MOST_BYTES) return;
     for (size_t i = 0; i < 4; i++) {
-        lengths[i] = i < 3 ? (size_t)number(i) : 5 + (size_t)number(3) - at;
-        lists[i] = numbers[i];
-        for (size_t j = 0; j < lengths[i]; j++) numbers[i][j] = number(at++);
+        lists[i] = numbers + at;
+        lengths[i] = i < 3 ? (size_t)q[i + 1] : count - at;
+        if (lengths[i] > count - at) return;
+        at += lengths[i];
     }
     memset(bytes, 165, m);
     answer(base_write(lists, lengths, bytes, m));
-    for (size_t i = 0; i < m; i++) printf("%02x%s", bytes[i], i % 32 == 31 || i + 1 == m ? "\n" : "");
+    for (size_t i = 0; i < m; i++) printf("%02x", bytes[i]);
+    printf("\n");
 }
 
-static void fill(size_t m) {
-    for (size_t i = 0; i < m; i++) room[i] = 6148914691236517205;
+/* Takes in the bytes behind a head, or keeps what is lent. */
+static void lend(uint64_t n) {
+    if (n > MOST_LENT) return;
+    length = fread(lent, 1, n, stdin);
+    for (size_t i = 0; i < length / 8; i++) numbers[i] = base_word(lent, 8 * i);
 }
 
-static void delay(void) {
-    size_t n = (size_t)number(0);
-    const uint8_t *file = input + 8;
-    for (size_t at = 8 + n; at + 48 <= length; at += 48) {
-        int64_t a[6];
-        for (size_t i = 0; i < 6; i++) a[i] = base_word(input, at + 8 * i);
-        if (a[0] == 1) {
-            struct fringe_earth e = base_orientation(file, n, a[1], a[2]);
-            printf("%" PRId64 " %" PRId64 " %" PRId64 " %" PRId64 " %" PRIu32 "\n", e.refusal, e.x, e.y, e.ut1_used, e.tick);
-        } else if (a[0] == 2) {
-            answer(base_delay(file, n, a[1], a[2], a[3], a[4], a[5]));
-        } else {
-            fill((size_t)a[2]);
-            answer(base_samples(file, n, (uint64_t)a[1], room, (size_t)a[2]));
-            for (int64_t i = 0; i < a[2]; i++) printf("%" PRId64 "\n", room[i]);
-        }
+int main(void) {
+    uint8_t head[64];
+    int64_t q[8];
+    while (fread(head, 1, sizeof head, stdin) == sizeof head) {
+        for (size_t i = 0; i < 8; i++) q[i] = base_word(head, 8 * i);
+        lend((uint64_t)q[7]);
+        if (q[0] == 16 || q[0] == 18) with_numbers(q, (size_t)q[6]);
+        else if (q[0] == 17) with_bytes(q, (size_t)q[6]);
+        else if (q[0] < 8) of_an_angle(q);
+        else of_a_file(q);
     }
-}
-
-static void tracks(void) {
-    static int64_t samples[8200];
-    for (size_t at = 0; at < length / 8;) {
-        size_t n = (size_t)number(at + 1), m = (size_t)number(at + 3);
-        for (size_t i = 0; i < n; i++) samples[i] = number(at + 4 + i);
-        fill(m);
-        answer(base_track(samples, n, number(at + 2), room, m));
-        for (size_t i = 0; i < m; i++) printf("%s%" PRId64, i ? " " : "", room[i]);
-        printf("\n");
-        at += 4 + n;
-    }
-}
-
-int main(int argc, char **argv) {
-    const char *what = argc > 1 ? argv[1] : "";
-    length = fread(input, 1, sizeof input, stdin);
-    if (!strcmp(what, "earth")) earth();
-    else if (!strcmp(what, "check")) check();
-    else if (!strcmp(what, "write")) write_file();
-    else if (!strcmp(what, "delay")) delay();
-    else if (!strcmp(what, "track")) tracks();
-    else return 2;
     return 0;
 }

@@ -64,7 +64,7 @@ def questions_of_earth(tally):
 
 def each_kind_of_answer(tally):
     """Each call is asked with an answer and with each number that document 01 lets it give; so are the questions of the gate."""
-    counts = Counter(short.kind(*known) for known in programs.all_questions())
+    counts = Counter(kind for _, kind in short.kinds(programs.all_questions()))
     tally.equal("kinds of answers", sorted(counts), sorted(short.expected_kinds()))
     for name in short.GIVEN:
         of_call = ["%d refused with %d" % (counts[kind], kind[1]) for kind in sorted(counts) if kind[0] == name and kind[1]]

@@ -138,9 +138,11 @@ CALLS = {
 
 def answered(q):
     """Whether a question is one of the calls, with a room and lists that `answers` takes."""
-    if q.what == WRITE and q.a + q.b + q.c > len(q.lent) // 8:
+    if q.what in MOST_ROOM and index(q.room) > MOST_ROOM[q.what]:
         return False
-    return q.what in CALLS and q.room <= MOST_ROOM.get(q.what, q.room)
+    if q.what == WRITE and sum(map(index, q[1:4])) > len(q.lent) // 8:
+        return False
+    return q.what in CALLS
 
 
 def lines_of(question):

@@ -20,8 +20,11 @@ def expected_kinds():
     return {(name, number) for name, numbers in GIVEN.items() for number in (0, *numbers)}
 
 
-def kind(question, lines):
-    return (NAMES[question.what], refusal(question, lines))
+def kinds(known):
+    """Each question that is answered, and its kind: the call, and the number that it gives."""
+    for question, lines in known:
+        if lines:
+            yield (question, (NAMES[question.what], refusal(question, lines)))
 
 
 def size(question):
@@ -31,8 +34,7 @@ def size(question):
 def of_each_kind(known):
     """The smallest question of each kind, the first where several are; `known` has the reference's lines beside each question."""
     smallest = {}
-    for question, lines in known:
-        name = kind(question, lines)
+    for question, name in kinds(known):
         if name not in smallest or size(question) < size(smallest[name]):
             smallest[name] = question
     return sorted(smallest.values(), key=lambda question: (question.lent or b"", question))

@@ -3,6 +3,8 @@
 Passes of them may be refused: some name an id that is not there, some reach an epoch that the orientation days do not cover.
 """
 
+from math import acos, pi
+
 from reference.delay import orientation_of
 from reference.earth import DAY_MS
 from reference.sine import TURN, cosine
@@ -158,18 +160,28 @@ def widest_leaps():
     return [(55_000 + i, 0, 0, -900_000_000 if i % 2 else 900_000_000, 99 * (i % 2)) for i in range(12)]
 
 
-def tick_of_a_half():
-    """A tick whose cosine is one half exactly."""
-    return next(tick for tick in range(TURN // 6 - 50, TURN // 6 + 50) if cosine(tick) == QUARTER // 2)
+def tick_of_few_bits():
+    """A tick whose cosine is an odd multiple of a power of two, one half if some tick has it, and the scale that makes it one half."""
+    for scale in (1, 2, 4, 8):
+        for multiple in range(1, 2 * scale, 2):
+            wanted = multiple * QUARTER // (2 * scale)
+            near = round(acos(wanted / QUARTER) / (2 * pi) * TURN)
+            for tick in range(near - 50, near + 50):
+                if cosine(tick) == wanted:
+                    return (tick, scale)
+    raise ValueError("no tick has such a cosine")
 
 
 def halves_session(numbers):
-    """Odd baselines along one axis, each seen where the cosine is one half: the projection lies midway between two millimetres."""
+    """Baselines along one axis, each seen where the cosine makes the projection lie midway between two millimetres."""
     days = [(60_000, 0, 0, numbers.randint(-(10**8), 10**8), 37), (60_001, 0, 0, 0, 37)]
     *_, angle = orientation_of(*days, 0)
-    stations = [(1, 0, 0, 0), (2, 7, 0, 0), (3, -5, 0, 0), (4, 2_000_001, 0, 0), (5, -6_399_999_999, 0, 0)]
-    sources = [(1, (angle - tick_of_a_half()) % TURN, 0), (2, (angle + tick_of_a_half()) % TURN, tick_of_a_half())]
-    passes = [(one, two, source, 60_000, 0, 1, 1, 0) for one, two in ((1, 2), (2, 1), (1, 3), (4, 1), (1, 4), (5, 1)) for source in (1, 2)]
+    tick, scale = tick_of_few_bits()
+    odd_lengths = (7, -5, 2_000_001, -(GREATEST_LENGTH // scale - 1))
+    stations = [(1, 0, 0, 0), *((2 + i, scale * length, 0, 0) for i, length in enumerate(odd_lengths))]
+    sources = [(1, (angle - tick) % TURN, 0), (2, (angle + tick) % TURN, tick)]
+    pairs = ((1, 2), (2, 1), (1, 3), (4, 1), (1, 4), (5, 1))
+    passes = [(one, two, source, 60_000, 0, 1, 1, 0) for one, two in pairs for source in (1, 2)]
     return (stations, sources, days, passes)
 
 

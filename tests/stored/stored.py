@@ -33,7 +33,7 @@ def summary(heads, outputs):
     digest = hashlib.sha256(b"".join(map(text, outputs))).hexdigest()
     made = ["sha256 %s of what is printed for %d inputs" % (digest, len(outputs))]
     for i in range(0, len(outputs), -(-len(outputs) // SHOWN)):
-        made += ["%d: %s" % (i, heads[i]), *("    " + line[:110] for line in outputs[i][:4])]
+        made += ["%d: %s" % (i, heads[i]), *(("    " + line[:110]).rstrip() for line in outputs[i][:4])]
     return text(made)
 
 
