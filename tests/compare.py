@@ -1,4 +1,4 @@
-"""The two proved programs held to the reference: `answers` question by question, in a few long runs; `tracks` file by file."""
+"""The proved programs held to the reference: `answers` by questions, in a few long runs; `tracks` file by file."""
 
 from concurrent.futures import ThreadPoolExecutor
 
@@ -37,7 +37,10 @@ def judge(tally, part, ran):
 
 
 def answers(tally, command=None, known=None):
-    """Every question, or those that are given, by `answers` or by a program that reads as it does; a cut head ends each run."""
+    """All questions, or those that are given, by `answers` or by a program that reads as it does.
+
+    A head that is cut short ends each run.
+    """
     command, known = command or rattle.command("answers"), known or programs.all_questions()
     parts = [known[i:i + QUESTIONS_IN_A_RUN] for i in range(0, len(known), QUESTIONS_IN_A_RUN)]
     with ThreadPoolExecutor(programs.AT_A_TIME) as pool:

@@ -1,4 +1,4 @@
-"""UT1 goes on over a leap second: document 02, L1, asked of the proved program over the nights of 2015-06-30 and 2016-12-31."""
+"""UT1 goes on over a leap second: document 02, L1, asked of the proved program for the last two of them."""
 
 from unittest.mock import patch
 

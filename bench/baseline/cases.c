@@ -1,4 +1,4 @@
-/* Answers the questions of the tests with the baseline, in the format of tests/README.md: the calls that the baseline has, and no others. */
+/* Answers the questions of the tests on calls that the baseline has, in the format of tests/README.md. */
 #include "baseline.h"
 
 #include <inttypes.h>
@@ -32,7 +32,10 @@ static void of_an_angle(const int64_t q[8]) {
     switch (q[0]) {
     case 1: print(&s, 1); break;
     case 2: print(&c, 1); break;
-    case 3: t = base_arguments(q[1], q[2], q[3]), print((int64_t[]){t.refusal, t.n, t.l, t.lp, t.f, t.d, t.om}, 7); break;
+    case 3:
+        t = base_arguments(q[1], q[2], q[3]);
+        print((int64_t[]){t.refusal, t.n, t.l, t.lp, t.f, t.d, t.om}, 7);
+        break;
     case 4: answer(base_tide(q[1], q[2], q[3])); break;
     case 5: angle = base_angle_at(q[1], q[2]), print((int64_t[]){angle.refusal, angle.e, angle.tick}, 3); break;
     case 6: e = base_later(q[1], q[2], q[3]), print((int64_t[]){e.refusal, e.day, e.ms}, 3); break;
@@ -44,8 +47,14 @@ static void of_a_file(const int64_t q[8]) {
     struct fringe_counts c;
     struct fringe_earth e;
     switch (q[0]) {
-    case 8: c = base_check(lent, length), print((int64_t[]){c.refusal, c.stations, c.sources, c.days, c.passes}, 5); break;
-    case 14: e = base_orientation(lent, length, q[1], q[2]), print((int64_t[]){e.refusal, e.x, e.y, e.ut1_used, e.tick}, 5); break;
+    case 8:
+        c = base_check(lent, length);
+        print((int64_t[]){c.refusal, c.stations, c.sources, c.days, c.passes}, 5);
+        break;
+    case 14:
+        e = base_orientation(lent, length, q[1], q[2]);
+        print((int64_t[]){e.refusal, e.x, e.y, e.ut1_used, e.tick}, 5);
+        break;
     case 15: answer(base_delay(lent, length, q[1], q[2], q[3], q[4], q[5])); break;
     }
 }

@@ -2,7 +2,7 @@
 
 from c.cells import Name
 from c.filerows import FILE, at, changed
-from program import words
+from reference import words
 from reference import delay, earth, session, track
 
 

@@ -48,7 +48,7 @@ def two_stations(stations=(WETTZELL, ONSALA), days=THREE_DAYS, passes=(OVER_MIDN
 
 
 def of_two_stations():
-    """Two stations seen over a midnight: a file cut off by a number, a pass of no samples, ids that fall, a day left out."""
+    """Two stations seen over a midnight: the file cut off, a pass of no samples, ids that fall, a day left out."""
     return [
         two_stations()[:-8],
         two_stations(passes=[(*OVER_MIDNIGHT[:6], 0, 100)]),
@@ -58,7 +58,7 @@ def of_two_stations():
 
 
 def passes_refused_and_not():
-    """Five passes: over midnight; of a station that is not there; exact; of a sample past the last day; of three segments."""
+    """Five passes: over midnight; of a station that is not there; exact; past the last day; of three segments."""
     return two_stations(passes=[
         OVER_MIDNIGHT,
         (10, 30, 1, 60_000, 0, 1_000, 3, 0),
@@ -80,7 +80,9 @@ def files():
 
 
 def lists_to_write():
-    """The smallest file in a room that is enough and in one a byte short; then lists that are refused, each by one number more."""
+    """The smallest file in a room that is enough and in one a byte short; then lists that are refused, each by one
+    number more.
+    """
     written = [
         ([STATION], DAYS, 304),
         ([STATION], DAYS, 303),

@@ -48,7 +48,8 @@ OF_A_REFUSED_FILE = [
     (SAMPLES, (0,), 2),
 ]
 
-# Of the file of one station in selftest.py: noon, the last day, a time that is none; its own delay, a station that is not there; rooms.
+# Of the file of one station in selftest.py: noon, the last day, a time that is none; its own delay, a station that is
+# not there; rooms.
 OF_THE_SMALL_FILE = [
     (ORIENTATION, (51_544, 43_200_000), 0),
     (ORIENTATION, (51_545, 0), 0),

@@ -1,4 +1,4 @@
-"""The inputs hold what the comparisons need: so many of them, each refusal and each trap so often, a fault at each place."""
+"""The inputs hold what the comparisons need: each refusal and each trap so often, and a fault at each place."""
 
 from collections import Counter
 from itertools import product
@@ -38,7 +38,7 @@ def session_files(tally):
 
 
 def places_of_faults(tally):
-    """Each word of the contents table, the length, each field and each order is wrong in some file: number, kind, field."""
+    """Each word of the contents table, the length, each field and each order is wrong in some file."""
     faults = (session.fault(file) for file, _ in programs.sessions())
     found = {(number, kind, field) for number, kind, _, field in faults}
     contents = {(1, 0, field) for field in range(14)}
@@ -63,12 +63,12 @@ def questions_of_earth(tally):
 
 
 def each_kind_of_answer(tally):
-    """Each call is asked with an answer and with each number that document 01 lets it give; so are the questions of the gate."""
+    """Each call is asked with an answer and with each number that document 01 lets it give, and gives no other."""
     counts = Counter(kind for _, kind in short.kinds(programs.all_questions()))
     tally.equal("kinds of answers", sorted(counts), sorted(short.expected_kinds()))
     for name in short.GIVEN:
-        of_call = ["%d refused with %d" % (counts[kind], kind[1]) for kind in sorted(counts) if kind[0] == name and kind[1]]
-        tally.say(", ".join(["%s: %d answered" % (name, counts[name, 0]), *of_call]))
+        refused = ["%d refused with %d" % (counts[name, number], number) for number in short.GIVEN[name]]
+        tally.say(", ".join(["%s: %d answered" % (name, counts[name, 0]), *refused]))
 
 
 def run(tally):

@@ -1,4 +1,4 @@
-"""The session files that the comparisons run over: sound and damaged ones, the same for the same seed, then the chosen ones.
+"""The session files of the comparisons: sound and damaged ones, the same for the same seed, then the chosen ones.
 
     cd tests && python3 -m inputs.generate [FOLDER]
 
@@ -23,7 +23,8 @@ def files(seed=SEED, sound_count=SOUND, each=DAMAGED_OF_EACH_KIND):
     numbers = random.Random(seed)
     full = sound.full_session(numbers)
     sessions = [full, *sound.sessions(numbers, sound_count)]
-    small = [session for session in sessions if len(session[3]) < 13 and max(planned[6] for planned in session[3]) < 100]
+    few = [session for session in sessions if len(session[3]) < 13]
+    small = [session for session in few if max(planned[6] for planned in session[3]) < 100]
     return [*map(encode, sessions), *damaged.files(numbers, full, small, each), *chosen.files()]
 
 

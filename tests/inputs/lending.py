@@ -1,4 +1,4 @@
-"""Questions on the format itself: bytes that stay lent, what is no call, and rooms and lists that a call cannot have."""
+"""Questions on the format: bytes that stay lent, what is no call, and rooms and lists that a call cannot have."""
 
 from reference.selftest import small_session
 
@@ -28,7 +28,9 @@ def rooms():
 def lists():
     """Lists for the writer that take all numbers lent, or more than those."""
     numbers = lent_numbers(range(20))
-    for lengths in ((20, 0, 0), (0, 20, 0), (0, 0, 20), (21, 0, 0), (10, 10, 1), (-1, 0, 0), (0, -1, 1), (1, 1, 2**63 - 1)):
+    whole = ((20, 0, 0), (0, 20, 0), (0, 0, 20))
+    beyond = ((21, 0, 0), (10, 10, 1), (-1, 0, 0), (0, -1, 1), (1, 1, 2**63))
+    for lengths in whole + beyond:
         yield Question(WRITE, *lengths, room=8, lent=numbers)
 
 

@@ -1,4 +1,4 @@
-"""Questions on predictions from lent tracks: chosen ones, our own, ones near the limits of refusal 9, and ones past them."""
+"""Questions on predictions from lent tracks: chosen ones, our own, ones near the limits of refusal 9 and past them."""
 
 import random
 
@@ -58,7 +58,8 @@ def free(numbers):
         count = numbers.choice((1, 2, 3, 1_024, numbers.randint(1, 1_024)))
         ends = [numbers.choice((LIMIT, -LIMIT, numbers.randint(-LIMIT, LIMIT))) for _ in range(2)]
         offset = 65_536 * ends[0] + numbers.choice((0, 32_767, 32_768, -32_767, -32_768, 0, 0))
-        rate = 65_536 * (ends[1] - ends[0]) // max(1, count - 1) if numbers.random() < 0.7 else numbers.randint(-200, 200)
+        steep = 65_536 * (ends[1] - ends[0]) // max(1, count - 1)
+        rate = steep if numbers.random() < 0.7 else numbers.randint(-200, 200)
         segments.append((start, count, offset, rate))
         start += count
     return flat(segments)

@@ -1,6 +1,6 @@
 """Questions to the proved program `answers`: how they are written and read, and what the reference prints for each.
 
-The table in ../README.md is their format. Run as a program, this reads questions on standard input and prints each with its answer:
+The table in ../README.md is their format. Run as a program, this reads questions and prints each with its answer:
 
     cd tests && python3 -m inputs.questions < ../crates/answers/stdin
 """

@@ -25,8 +25,8 @@ def questions_of(file):
     yield Question(CHECK, lent=file)
     yield Question(FAULT, lent=file)
     for what, count in zip(RECORDS, counts(file), strict=True):
-        near = [*range(count + 1)]
-        yield from (Question(what, index, lent=file) for index in near + [far for far in FAR_INDEXES if far not in near])
+        far = [index for index in FAR_INDEXES if index > count]
+        yield from (Question(what, index, lent=file) for index in [*range(count + 1), *far])
 
 
 def questions():

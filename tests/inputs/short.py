@@ -1,4 +1,4 @@
-"""The questions of crates/answers/stdin, which the gate asks by itself: document 01's, and of each call one for each number that it gives."""
+"""The questions of crates/answers/stdin: document 01's, and of each call one for each number that it gives."""
 
 from . import earth, track
 from .questions import NAMES, refusal
@@ -32,7 +32,7 @@ def size(question):
 
 
 def of_each_kind(known):
-    """The smallest question of each kind, the first where several are; `known` has the reference's lines beside each question."""
+    """The smallest question of each kind, the first where several are; `known` has the answer beside each question."""
     smallest = {}
     for question, name in kinds(known):
         if name not in smallest or size(question) < size(smallest[name]):

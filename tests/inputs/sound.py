@@ -3,7 +3,7 @@
 Passes of them may be refused: some name an id that is not there, some reach an epoch that the orientation days do not cover.
 """
 
-from math import acos, pi
+from bisect import bisect_left
 
 from reference.delay import orientation_of
 from reference.earth import DAY_MS
@@ -161,14 +161,12 @@ def widest_leaps():
 
 
 def tick_of_few_bits():
-    """A tick whose cosine is an odd multiple of a power of two, one half if some tick has it, and the scale that makes it one half."""
+    """A tick whose cosine is an odd multiple of 2^29, or else of 2^28, and so on; and 2^29 by that power."""
     for scale in (1, 2, 4, 8):
-        for multiple in range(1, 2 * scale, 2):
-            wanted = multiple * QUARTER // (2 * scale)
-            near = round(acos(wanted / QUARTER) / (2 * pi) * TURN)
-            for tick in range(near - 50, near + 50):
-                if cosine(tick) == wanted:
-                    return (tick, scale)
+        for wanted in range(QUARTER // (2 * scale), QUARTER, QUARTER // scale):
+            tick = bisect_left(range(QUARTER), -wanted, key=lambda tick: -cosine(tick))
+            if cosine(tick) == wanted:
+                return (tick, scale)
     raise ValueError("no tick has such a cosine")
 
 

@@ -1,4 +1,4 @@
-"""Questions on the writer of the session file: lists in and out of order, ragged and miscounted, in rooms exact, short and ample."""
+"""Questions on the writer: lists in and out of order, ragged and miscounted, in rooms exact, short and ample."""
 
 import random
 

@@ -1,4 +1,4 @@
-"""Parts of pages that are made: what stands between `<!-- made: NAME -->` and `<!-- end -->` in README.md and docs/*.md."""
+"""Parts of README.md and docs/*.md that are made: what stands between `<!-- made: NAME -->` and `<!-- end -->`."""
 
 import glob
 import os
@@ -22,15 +22,22 @@ def sample_run(sample):
 PARTS = {"sample-run": sample_run}
 
 
+def marks(page):
+    """How many parts of a page are marked."""
+    return sum(line.startswith(BEGINS) for line in page.splitlines())
+
+
 def remade(page, sample):
     """A page with each of its marked parts made anew; a mark that has no end, or an unknown name, is an error."""
     def part(found):
         begin, name, end = found.groups()
+        if name not in PARTS:
+            raise ValueError("no part of a page is called %s" % name)
         return "%s\n%s\n%s" % (begin, PARTS[name](sample), end)
 
     made, count = PART.subn(part, page)
-    if count != page.count(BEGINS):
-        raise ValueError("a part that is made has no end")
+    if count != marks(page):
+        raise ValueError("a part of a page has no end")
     return made
 
 
@@ -39,5 +46,5 @@ def pages(sample):
     for path in [os.path.join(ROOT, "README.md"), *sorted(glob.glob(os.path.join(ROOT, "docs", "*.md")))]:
         with open(path, encoding="utf-8") as file:
             page = file.read()
-        if BEGINS in page:
+        if marks(page):
             yield (path, remade(page, sample).encode())

@@ -1,7 +1,7 @@
 """Files that are made and stored: each is held here to what its rule makes now, and `tests/remake` writes them anew.
 
-They are a part of what the reference prints for each topic, with the digest of the whole; the files `stdin` and `stdout`
-of the two program crates; the sample session; the C headers of tests/c; and the marked parts of pages.
+They are a part of what the reference prints for each topic, with the digest of the whole; the files `stdin` and
+`stdout` of the two program crates; the sample session; the C headers of tests/c; and the marked parts of pages.
 """
 
 import glob
@@ -29,7 +29,7 @@ def place(*parts):
 
 
 def summary(heads, outputs):
-    """The digest of all that is printed, and some of it, evenly spaced: an input's number, the input in words, its lines."""
+    """The digest of all that is printed, and some of it, evenly spaced: number, input, what is printed."""
     digest = hashlib.sha256(b"".join(map(text, outputs))).hexdigest()
     made = ["sha256 %s of what is printed for %d inputs" % (digest, len(outputs))]
     for i in range(0, len(outputs), -(-len(outputs) // SHOWN)):
@@ -100,5 +100,6 @@ def contents(path):
 def run(tally):
     made = dict(all_files())
     for path, wanted in made.items():
-        tally.check("stored " + name(path), contents(path) == wanted, "is not what is made now: tests/remake makes it anew")
+        same = contents(path) == wanted
+        tally.check("stored " + name(path), same, "is not what is made now: tests/remake makes it anew")
     tally.equal("stored files that nothing makes", left_over(made), [])

@@ -1,7 +1,7 @@
-"""Wrong programs that the inputs must notice: document 01's shortcuts, the programs that it shuts out by name, and their like.
+"""Wrong programs that the inputs must notice: document 01's shortcuts, the programs that it shuts out, and their like.
 
-Each one puts a wrong function into the reference for a moment. Some input has to be answered in another way then; otherwise
-a program with the same mistake would pass the comparison. A wrong program is one test.
+Each one puts a wrong function into the reference for a moment. Some input has to be answered in another way then;
+otherwise a program with the same mistake would pass the comparison. A wrong program is one test.
 """
 
 import random

@@ -1,5 +1,5 @@
-"""A promise is named once: the `ensures` of each public call is one proposition of specs/Promises.antt, and the theorem of
-one value takes it twice.
+"""A promise is named once: the `ensures` of each public call is one proposition of specs/Promises.antt, and the theorem
+of one value takes it twice.
 
 So neither can be weakened without the other. A public call is a `pub fn` in lib.rt of a crate that C's functions or the
 program stand on, or one of those functions themselves; each is one test.
@@ -52,7 +52,7 @@ def wrong_call(crate, promise):
         yield "it ensures something else than one promise of its crate"
         return
     twice = [law for law in theorems(crate) if len(re.findall(r"\b%s\b" % promise, law)) == 2]
-    yield "" if len(twice) == 1 else "%d theorems say that any two results that %s allows are equal" % (len(twice), promise)
+    yield "" if len(twice) == 1 else "%d theorems of one value take %s twice" % (len(twice), promise)
 
 
 def check_crate(tally, crate):

@@ -2,9 +2,9 @@
 
 An edit makes several functions wrong at once, one program of each, and its head has a line for each of them:
 `# NAME (FUNCTION, PLACE): what it does`. `rt` calls an edit refused where one function is; the log of its check has the
-errors of all. PLACE is where the first error of the function's own proof stands; an error that only says that another was
-not admitted is none of its own. A law stands for a function by its file. The logs are those of `rt ci`; where one is missing
-or older than its crate, `rt must-fail` makes them all anew.
+errors of all. PLACE is where the first error of the function's own proof stands; an error that only says that another
+was not admitted is none of its own. A law stands for a function by its file. The logs are those of `rt ci`; where one
+is missing or older than its crate, `rt must-fail` makes them all anew.
 """
 
 import glob
