@@ -1,7 +1,7 @@
-"""The questions of crates/answers/stdin: document 01's, and of each call one for each number that it gives."""
+"""The questions of crates/answers/stdin: document 01's, some delays, and of each call one for each number it gives."""
 
-from . import earth, track
-from .questions import NAMES, refusal
+from . import chosen, earth, track
+from .questions import DELAY, NAMES, ORIENTATION, SAMPLES, Question, refusal
 
 # The numbers that document 01 lets each call give, beside an answer.
 GIVEN = {
@@ -40,5 +40,13 @@ def of_each_kind(known):
     return sorted(smallest.values(), key=lambda question: (question.lent or b"", question))
 
 
+def of_two_stations():
+    """Orientation, a delay and samples that are not 0, of two stations over a midnight."""
+    file = chosen.passes_refused_and_not()
+    yield Question(ORIENTATION, 60_000, 86_399_000, lent=file)
+    yield from (Question(DELAY, *names, 1, 60_000, 86_399_000, lent=file) for names in ((10, 20), (20, 10)))
+    yield from (Question(SAMPLES, index, room=6, lent=file) for index in range(5))
+
+
 def short(known):
-    return [*earth.document(), *track.document_questions(), *of_each_kind(known)]
+    return [*earth.document(), *track.document_questions(), *of_two_stations(), *of_each_kind(known)]
