@@ -4,6 +4,7 @@ import os
 from fractions import Fraction
 from math import isqrt
 
+from inputs import sample
 from reference import delay, earth
 from tally import alone
 
@@ -105,7 +106,13 @@ def plane_wave(tally):
     tally.say("erfa: beyond 1,000 km at most %.2g ps for each mm; below 1 km at most %.2f ps" % (worst_slope, worst_short))
 
 
+def places_of_date(tally):
+    words = [tuple(row[:3]) for row in stored("places.txt")]
+    tally.equal("erfa: the stored places are those of the sample session", words, [(*place, str(mjd)) for *place, mjd in sample.places()])
+
+
 def run(tally):
+    places_of_date(tally)
     rotation_angle(tally)
     delaunay_arguments(tally)
     plane_wave(tally)

@@ -1,7 +1,9 @@
-"""The inputs of the ERFA programs: `python3 -m erfa.inputs era`, `.. arguments` or `.. delay` prints them."""
+"""The inputs of the ERFA programs: `python3 -m erfa.inputs era`, `.. arguments`, `.. delay` or `.. places` prints them."""
 
 import random
 import sys
+
+from inputs import sample
 
 DAY_MS = 86_400_000
 
@@ -48,5 +50,5 @@ def delay_inputs(seed=2_110, count=600):
 
 
 if __name__ == "__main__":
-    for values in {"era": era_inputs, "arguments": argument_inputs, "delay": delay_inputs}[sys.argv[1]]():
+    for values in {"era": era_inputs, "arguments": argument_inputs, "delay": delay_inputs, "places": sample.places}[sys.argv[1]]():
         print(*values)

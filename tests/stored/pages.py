@@ -3,23 +3,72 @@
 import glob
 import os
 import re
+import textwrap
 
+import inputs.sample
+from erfa.places import ticks_of
 from rattle import ROOT
-from reference import program
+from reference import delay, program, session, track
+from reference.whole import R
 
 BEGINS = "<!-- made: "
 PART = re.compile(r"^(<!-- made: (\S+) -->\n).*?^(<!-- end -->)$", re.DOTALL | re.MULTILINE)
-LINES_SHOWN = 12
+LINES_SHOWN = 6
+UNIT = track.UNIT
+
+
+def indented(lines):
+    return "".join("    %s\n" % line for line in lines)
 
 
 def sample_run(sample):
     """What `tracks` prints for the sample session, its first lines."""
     printed = program.lines(sample)
-    more = ["..."] if len(printed) > LINES_SHOWN else []
-    return "".join("    %s\n" % line for line in printed[:LINES_SHOWN] + more)
+    return indented(["$ ./tracks", *printed[:LINES_SHOWN], *(["..."] if len(printed) > LINES_SHOWN else [])])
 
 
-PARTS = {"sample-run": sample_run}
+def utc(ms):
+    """A millisecond of a day as a time of day."""
+    return "%d:%02d:%02d" % (ms // 3_600_000, ms // 60_000 % 60, ms // 1_000 % 60)
+
+
+def sample_explained(sample):
+    """The second segment of the first pass, number by number."""
+    lists, names = session.sections_of(sample), inputs.sample.module().NAMES
+    one, two, source, day, ms, step, _, tolerance = lists[delay.PASSES][0]
+    samples = delay.samples_of(lists, lists[delay.PASSES][0])[1]
+    segments = track.track_of(samples, tolerance)
+    first, count, offset, rate = segments[1]
+    words = (
+        "Pass 0 has %d segments. Line 3 is its second segment: it starts at sample %d and covers %d samples. The pass is of "
+        "%s (station 1) and %s (station 2) with source %s; it starts at %s UTC of MJD %d, with a sample each %s ms, so sample "
+        "%d is at %s. There the offset, %d / 65,536, says a delay of %s ps: the wave reaches %s %.2f ms after %s. The rate, "
+        "%d / 65,536, says that each further sample adds %s ps. So at sample %d, %d samples on, the track has "
+        "(%d + %d · %d) / 65,536 = %s ps; the model has %s ps, within the tolerance of %s ps."
+    ) % (
+        len(segments), first, count, names[one], names[two], names[source], utc(ms), day, grouped(step), first,
+        utc(ms + first * step), offset, grouped(R(offset, UNIT)), names[two], offset / UNIT / 10**9, names[one], rate,
+        grouped(R(rate, UNIT)), first + 6, 6, offset, 6, rate, grouped(R(offset + 6 * rate, UNIT)), grouped(samples[first + 6]),
+        grouped(tolerance),
+    )
+    return "\n".join(textwrap.wrap(words, 118)) + "\n"
+
+
+def grouped(number):
+    return format(number, ",")
+
+
+def worked_place(sample):
+    """examples/place.c for a source of the sample session: what is typed, and what it prints."""
+    words = inputs.sample.places()[2]
+    return indented([
+        "gcc examples/place.c -lerfa -lm -o place        # Debian: apt-get install gcc libc6-dev liberfa-dev",
+        "./place %s %s %d" % words,
+        "%d %d" % ticks_of(*words),
+    ])
+
+
+PARTS = {"sample-run": sample_run, "sample-explained": sample_explained, "worked-place": worked_place}
 
 
 def marks(page):

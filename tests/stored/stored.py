@@ -7,11 +7,10 @@ They are a part of what the reference prints for each topic, with the digest of 
 import glob
 import hashlib
 import importlib
-import importlib.util
 import os
-from importlib.machinery import SourceFileLoader
 
 import inputs.program
+import inputs.sample
 import programs
 import rattle
 from inputs.questions import head, lines_of, stdin_of
@@ -55,14 +54,6 @@ def crate_files():
     yield (place("crates", "tracks", "stdout"), inputs.program.printed(inputs.program.short()))
 
 
-def sample_session():
-    """The bytes that examples/make-session writes."""
-    loader = SourceFileLoader("make_session", place("examples", "make-session"))
-    module = importlib.util.module_from_spec(importlib.util.spec_from_loader(loader.name, loader))
-    loader.exec_module(module)
-    return module.session()
-
-
 def c_headers():
     """What the module of the C tests makes, where there is one."""
     return importlib.import_module("c.values").files() if os.path.exists(C_VALUES) else []
@@ -70,7 +61,7 @@ def c_headers():
 
 def all_files():
     """Every file that is made: its path and its bytes."""
-    sample = sample_session()
+    sample = inputs.sample.session()
     yield from summaries()
     yield from crate_files()
     yield (place("examples", "session"), sample)
