@@ -50,19 +50,25 @@ def answers(tally, command=None, known=None):
     tally.say("%d questions in %d runs" % (len(known), len(parts)))
 
 
+def status(wanted):
+    """The status that `tracks` tells where nothing is lost: 1 where the file or a pass is refused."""
+    return 1 if any(line.startswith("refused") for line in lines_of(wanted)) else 0
+
+
 def complaints(file, wanted, ran):
-    """What is wrong about one run of `tracks`: standard output, standard error, or the status."""
-    wrote, said, status = ran
+    """What is wrong about one run of `tracks`: standard output, standard error, or the status that it tells."""
+    wrote, said, ended, told = ran
     reasons = inputs.program.said(file, wanted)
     for name, got, right in (("standard output", wrote, wanted), ("standard error", said, reasons)):
         yield "" if got == right else "%s, %s" % (name, difference(lines_of(got), lines_of(right)))
-    yield "" if status == 0 else "status %d" % status
+    told_right = told == b"%d\n" % status(wanted) and ended == 0
+    yield "" if told_right else "told the status %r, wanted %d, and ended with %d" % (told, status(wanted), ended)
 
 
 def tracks(tally):
     command, known = rattle.command("tracks"), programs.sessions()
     with ThreadPoolExecutor(programs.AT_A_TIME) as pool:
-        runs = pool.map(lambda file: rattle.run(command, file), [file for file, _ in known])
+        runs = pool.map(lambda file: rattle.run_and_listen(command, file), [file for file, _ in known])
         for i, ((file, wanted), ran) in enumerate(zip(known, runs, strict=True)):
             tally.nothing_wrong("tracks, file %d" % i, complaints(file, wanted, ran))
     for line in inputs.program.report(known):

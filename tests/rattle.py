@@ -34,8 +34,22 @@ def command(name):
     return ([emulator] if os.access(emulator, os.X_OK) else []) + loader + [program]
 
 
-def run(words, stdin):
-    """What a program writes to standard output and standard error, and its status, given the bytes on its standard input."""
+def run(words, stdin, kept=()):
+    """What a program writes to standard output and standard error, and its status, given the bytes on its standard input.
+
+    The descriptors that are kept stay open in it.
+    """
     plain = {name: value for name, value in os.environ.items() if not name.startswith("QEMU_")}
-    done = subprocess.run(words, input=stdin, capture_output=True, timeout=120, env=plain)
+    done = subprocess.run(words, input=stdin, capture_output=True, timeout=120, env=plain, pass_fds=kept)
     return (done.stdout, done.stderr, done.returncode)
+
+
+def run_and_listen(words, stdin):
+    """As `run`, and behind it what the program tells to descriptor 3."""
+    ours, theirs = os.pipe()
+    with open(ours, "rb") as listened:
+        try:
+            ran = run(["bash", "-c", 'exec 3>&%d "$@"' % theirs, "bash", *words], stdin, (theirs,))
+        finally:
+            os.close(theirs)
+        return (*ran, listened.read())

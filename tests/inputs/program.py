@@ -1,20 +1,19 @@
 """What the program `tracks` writes to standard output and to standard error, by the reference."""
 
 from lines import text
-from reference import program, session, words
+from reference import delay, program, session, words
 
-from . import features, generate
+from . import chosen, features, generate, spoken
+
+TEXT_BYTES = {9, 10, 13, *range(32, 127)}
 
 
 def short():
-    """Document 01's file of 304 bytes: one station, one source, two days and one pass of that station with itself."""
-    days = [(60_000, 100_000, 400_000, -20_000_000, 37), (60_001, 101_000, 401_000, -21_000_000, 37)]
-    lists = ([(10, 4_075_540_000, 931_735_000, 4_801_629_000)], [(1, 2_247_483_648, 24_469_000)], days, [(10, 10, 1, 60_000, 0, 1_000, 3, 0)])
-    return session.encode(lists)
+    return chosen.one_station_twice()
 
 
 def inputs():
-    return generate.files()
+    return [*generate.files(), *spoken.files()]
 
 
 def printed(file):
@@ -27,26 +26,105 @@ def refused_passes(stdout):
     return [(index, int(number)) for index, (word, number, *_) in enumerate(heads) if word == "refused"]
 
 
-def lacking(lists, index):
+# ---- a file that is refused
+
+
+def looks_like_text(file):
+    return file != b"" and all(byte in TEXT_BYTES for byte in file[:32])
+
+
+def end_of(file, place):
+    """Where a place's body ends, by the words of the contents table that stand for it."""
+    first, count = session.word(file, 16 + 24 * place), session.word(file, 24 + 24 * place)
+    return first + 8 * len(session.SECTIONS[place][1]) * count
+
+
+def of_word(file, word):
+    """The first wrong word of the contents table, which the file holds."""
+    found = session.word(file, 8 * word)
+    if word == 0:
+        return words.of_sections(found)
+    place, which = divmod(word - 1, 3)
+    kind, _, least, greatest = session.SECTIONS[place]
+    if which == 0:
+        return words.of_kind(place, found, [kind])
+    if which == 2:
+        return words.of_count(place, found, least, greatest)
+    if place == 0:
+        return words.of_first_byte(place, found, session.CONTENTS_BYTES, None)
+    return words.of_first_byte(place, found, end_of(file, place - 1), session.word(file, 24 * place))
+
+
+def of_contents(file, word):
+    if word < 13:
+        said = words.of_cut(len(file)) if len(file) < 8 * word + 8 else of_word(file, word)
+    else:
+        said = words.of_length(len(file), session.LONGEST_FILE, end_of(file, words.PASSES), session.word(file, 96))
+    return said + (words.TEXT if looks_like_text(file) else "")
+
+
+def byte_of(file, place, record, field):
+    """The first byte of a field in the file."""
+    return session.word(file, 16 + 24 * place) + 8 * (len(session.SECTIONS[place][1]) * record + field)
+
+
+def of_field(file, kind, record, field):
+    place = kind - 1
+    row, (low, high) = session.sections_of(file)[place][record], session.SECTIONS[place][1][field]
+    return words.of_range(place, kind, record, field, row[0], row[field], low, high, byte_of(file, place, record, field))
+
+
+def of_order(file, number, kind, record):
+    """Refusals 3 and 4: what the record before leaves for this one's first field."""
+    place = kind - 1
+    rows, greatest = session.sections_of(file)[place], session.SECTIONS[place][1][0][1]
+    found, before = rows[record][0], rows[record - 1][0]
+    least = before + 1
+    allowed = () if least > greatest else (least, greatest) if number == 3 else (least,)
+    return words.of_order(place, kind, record, found, before, allowed, byte_of(file, place, record, 0))
+
+
+def of_file(file):
+    number, kind, record, field = session.fault(file)
+    if number == 1:
+        return words.of_file(number, of_contents(file, field))
+    if number == 2:
+        return words.of_file(number, of_field(file, kind, record, field))
+    return words.of_file(number, of_order(file, number, kind, record))
+
+
+# ---- a pass that is refused, in a file that is accepted
+
+
+def of_names(lists, planned):
     """Field and id of each station and source that a pass names and the file lacks."""
-    stations, sources, _, passes = lists
-    named = zip(passes[index], (stations, stations, sources))
-    return [(field, name) for field, (name, records) in enumerate(named) if name not in [record[0] for record in records]]
+    stations, sources, _, _ = lists
+    named = zip(planned, (stations, stations, sources))
+    absent = [(field, name) for field, (name, records) in enumerate(named) if name not in [record[0] for record in records]]
+    return words.of_names(absent)
 
 
-def found(file, fault):
-    """The value at the place of a refusal 2, and its range."""
-    _, kind, record, field = fault
-    return (session.sections_of(file)[kind - 1][record][field], *session.SECTIONS[kind - 1][1][field])
+def of_days(lists, planned):
+    """The first sample that lacks a day, its day, and which days it lacks."""
+    known = [day[0] for day in lists[2]]
+    for sample, (day, _) in enumerate(delay.epochs_of(planned)):
+        lacking = [needed for needed in (day, day + 1) if needed not in known]
+        if lacking:
+            return words.of_days(sample, day, known[0], known[-1], lacking)
+    raise ValueError("no sample lacks a day")
+
+
+def of_pass(lists, index, number):
+    planned = lists[3][index]
+    return words.of_pass(index, number, of_names(lists, planned) if number == 5 else of_days(lists, planned))
 
 
 def said(file, stdout):
     """Standard error, for a file and what is printed for it: why the file is refused, or each pass that is."""
     if session.refusal(file):
-        fault = session.fault(file)
-        return text([words.of_file(len(file), fault, found(file, fault) if fault[0] == 2 else None)])
+        return text([of_file(file)])
     lists = session.sections_of(file)
-    return text(words.of_pass(index, number, lacking(lists, index)) for index, number in refused_passes(stdout))
+    return text(of_pass(lists, index, number) for index, number in refused_passes(stdout))
 
 
 def report(cases):

@@ -1,5 +1,5 @@
-"""The words that `tracks` says on standard error. They are the program's own, of crates/program/src/say.rt and explain.rt, and stand here once more;
-the number, the place, the value with its range, the pass and the ids that they go with are the reference's.
+"""The words that `tracks` says on standard error. They are the program's own, of crates/program/src, and stand here once more;
+the number, the place, the values, the ranges, the bytes, the pass, the sample, the days and the ids that they go with are the reference's.
 """
 
 SECTIONS = ("stations", "sources", "days", "passes")
@@ -18,53 +18,104 @@ UNITS = (
     ("", "", "", "", "ms", "ms", "", "ps"),
 )
 
-TABLE = ("number of sections", *(what + section for section in SECTIONS for what in ("kind of the ", "first byte of the ", "number of ")))
+# the section whose records are named by no field of their own
+PASSES = 3
 
-CUT_TABLE = "the file ends inside its contents table"
-WRONG_TABLE = "the contents table is not as it must be"
-IN_TABLE = "%s; see number %d of it (%s); its numbers count from 0"
+TABLE_WORDS = ("kind of the ", "first byte of the ", "number of ")
+SHOWS_HERE = "; a wrong number of %s (%d) shows here, too"
 
-OVER_LONG = "the file is longer than 65536 bytes"
-WRONG_LENGTH = "the length of the file is not what its contents table says"
+EMPTY = "the file is empty, expected a contents table of 104 bytes"
+CUT = "the file has %d bytes and ends inside its contents table, which has 104"
+OVER_LONG = "the file has more than 65536 bytes, expected %d by its contents table"
+OTHER_LENGTH = "the file has %d bytes, expected %d by its contents table"
+TEXT = "; the file looks like text: a session file is numbers of 8 bytes (docs/SESSION-FILE.md)"
 
-WRONG_RECORD = {
-    2: "a field is outside its range",
-    3: "the ids do not rise",
-    4: "the orientation days are not consecutive",
-}
-IN_RECORD = "%s; see section %d (%s), record %d, field %d (%s); records and fields count from 0"
-ALLOWED = "; %s is %d, allowed %d to %d %s"
+COUNT_FROM_0 = "; records count from 0"
+LAST_ALONE = "allowed none because record %d has %s %d, which only the last record can have"
 
-LACKING_NAMES = "the file lacks what the pass names"
-LACKING_DAYS = "the file lacks the orientation record of a sample's day or of the next day"
-
-
-def of_contents(length, field):
-    """Refusal 1 of a file of so many bytes: the word of the contents table, or 13."""
-    if field == 13:
-        return OVER_LONG if length > 65_536 else WRONG_LENGTH
-    return IN_TABLE % (CUT_TABLE if length < 8 * field + 8 else WRONG_TABLE, field, TABLE[field])
+UNREAD = "standard input could not be read beyond byte %d"
+UNWRITTEN = "standard output could not be written; %d of %d passes were written whole"
+REFUSAL_UNWRITTEN = "standard output could not be written; the line of the refusal was not written whole"
 
 
-def of_record(number, kind, record, field):
-    return IN_RECORD % (WRONG_RECORD[number], kind, SECTIONS[kind - 1], record, field, FIELDS[kind - 1][field])
+def one_or_other(numbers):
+    return " or ".join(str(number) for number in numbers)
 
 
-def of_range(kind, field, value, low, high):
-    """What refusal 2 has behind its place: the value that was found, and the range of the field, with its unit if it has one."""
-    return (ALLOWED % (FIELDS[kind - 1][field], value, low, high, UNITS[kind - 1][field])).rstrip()
+def of_sections(found):
+    """The first number of the contents table."""
+    return "contents table, number of sections is %d, expected 4, byte 0" % found
 
 
-def of_file(length, fault, found):
-    """The line of a file that is refused: its length in bytes, the answer of `fault`, and for refusal 2 the value found and its range."""
-    words = of_contents(length, fault[3]) if fault[0] == 1 else of_record(*fault)
-    if fault[0] == 2:
-        words += of_range(fault[1], fault[3], *found)
-    return "refused %d: %s" % (fault[0], words)
+def in_table(place, word, found, expected):
+    """One of the three words that the contents table has for a place: 0 its kind, 1 its first byte, 2 its count."""
+    at = 24 * place + 8 * word + 8
+    return "contents table, %s%s is %d, %s, byte %d" % (TABLE_WORDS[word], SECTIONS[place], found, expected, at)
 
 
-def of_pass(index, number, lacking):
-    """The line of a pass that is refused, in a file that is accepted: for refusal 5 with each field whose id the file lacks, and that id."""
-    names = "".join(", %s (id %d)" % (FIELDS[3][field], name) for field, name in lacking)
-    words = LACKING_NAMES + names if number == 5 else LACKING_DAYS
-    return "pass %d refused %d: %s; passes count from 0" % (index, number, words)
+def of_kind(place, found, kinds):
+    return in_table(place, 0, found, "expected " + one_or_other(kinds))
+
+
+def of_first_byte(place, found, expected, count):
+    """With the count of the place before, none for the first place."""
+    if place == 0:
+        return in_table(place, 1, found, "expected %d because the contents table has %d bytes" % (expected, expected))
+    before = SECTIONS[place - 1]
+    return in_table(place, 1, found, "expected %d, where the %s end" % (expected, before)) + SHOWS_HERE % (before, count)
+
+
+def of_count(place, found, least, greatest):
+    return in_table(place, 2, found, "allowed %d to %d" % (least, greatest))
+
+
+def of_cut(length):
+    """Of a file that ends inside its contents table."""
+    return CUT % length if length else EMPTY
+
+
+def of_length(length, longest, expected, passes):
+    said = OVER_LONG % expected if length > longest else OTHER_LENGTH % (length, expected)
+    return said + SHOWS_HERE % (SECTIONS[PASSES], passes)
+
+
+def at_record(place, kind, record):
+    return "section %d (%s), record %d" % (kind, SECTIONS[place], record)
+
+
+def of_range(place, kind, record, field, name, found, low, high, byte):
+    """With the id or the MJD of the record, and the unit of the field if it has one."""
+    named = "" if place == PASSES else " (%s %d)" % (FIELDS[place][0], name)
+    unit = UNITS[place][field]
+    value = (FIELDS[place][field], found, low, high, byte)
+    said = at_record(place, kind, record) + named + ", %s is %d, allowed %d to %d, byte %d" % value
+    return said + ("; the unit is " + unit if unit else "") + COUNT_FROM_0
+
+
+def of_order(place, kind, record, found, before, allowed, byte):
+    """A first field that is not as the one of the record before asks: `allowed` is one number, the least and the greatest, or none."""
+    name = FIELDS[place][0]
+    may = "allowed %s because record %d has %s %d" % (" to ".join(map(str, allowed)), record - 1, name, before)
+    may = may if allowed else LAST_ALONE % (record - 1, name, before)
+    return at_record(place, kind, record) + ", %s is %d, %s, byte %d" % (name, found, may, byte) + COUNT_FROM_0
+
+
+def of_names(lacking):
+    """Refusal 5 of a pass: each field whose id the file lacks, and that id."""
+    return "the file lacks what the pass names" + "".join(", %s (id %d)" % (FIELDS[PASSES][field], name) for field, name in lacking)
+
+
+def of_days(sample, day, first, last, lacking):
+    """Refusal 6 of a pass: the first sample whose day, or the next, has no record; the file's days; and which of the two it lacks."""
+    needs = "sample %d is on MJD %d and needs the orientation of MJD %d and %d" % (sample, day, day, day + 1)
+    lack = " and ".join(map(str, lacking)) + (" is" if len(lacking) == 1 else " are") + " lacking"
+    return "%s; the file has MJD %d to %d, so %s" % (needs, first, last, lack)
+
+
+def of_pass(index, number, said):
+    """The line of a pass that is refused, in a file that is accepted."""
+    return "pass %d refused %d: %s; %s count from 0" % (index, number, said, "passes" if number == 5 else "passes and samples")
+
+
+def of_file(number, said):
+    return "refused %d: %s" % (number, said)

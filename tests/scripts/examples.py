@@ -1,8 +1,6 @@
 """examples/: run-host and make-session on the sample session, held to the reference; install, and the example by it."""
 
 import os
-import shutil
-import sys
 import tempfile
 
 from c import header
@@ -59,12 +57,11 @@ def run_host(tally):
 
 
 def make_session(tally):
-    """The script writes beside itself, so that a copy of it leaves the sample session alone."""
+    """By hand, from another folder, to a file that is named; tests/run holds examples/session itself to what is made."""
     with tempfile.TemporaryDirectory() as folder:
-        made = shutil.copy(os.path.join(ROOT, "examples", "make-session"), folder)
-        ran([sys.executable, made])
-        remade = os.path.join(folder, "session")
-        same = os.path.exists(remade) and contents(remade) == contents(SESSION)
+        ran([os.path.join(ROOT, "examples", "make-session"), "made"], folder=folder)
+        made = os.path.join(folder, "made")
+        same = os.path.exists(made) and contents(made) == contents(SESSION)
     tally.check("examples/make-session makes the sample session", same)
 
 

@@ -22,7 +22,7 @@ ghost use Rattle.delay.specs.Keeping.{delayAt, lacksBy};
 ghost use Rattle.delay.specs.Sessions.{covers, sampleEpoch};
 
 // The epoch of sample i.
-fn sample_epoch(p: Pass, i: usize) -> Epoch
+pub fn sample_epoch(p: Pass, i: usize) -> Epoch
     requires { ⌜ InPass p × (i < 4096) ⌝ }
     ensures { λ r. ⌜ r ≡ sampleEpoch p i ⌝ }
 {

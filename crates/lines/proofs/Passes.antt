@@ -104,7 +104,7 @@ module _ (s : List ℕ) (e : checkOf s .refusal ≡ pos 0) where
   pub accepted : refusalOf s ≡ 0
   accepted = let f : pos (refusalOf s) ≡ pos 0 = sym (check-number s) ∙ e in cc
 
-  counted : ∣ checkOf s .passes ∣ ≡ countOf s 3
+  pub counted : ∣ checkOf s .passes ∣ ≡ countOf s 3
   counted = ap (λ (c : Counts). ∣ c .passes ∣) (check-accepted s accepted) ∙ omega arith
 
   pub passes-few : ∣ checkOf s .passes ∣ ≤ 64

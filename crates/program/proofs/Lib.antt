@@ -1,1 +1,3 @@
 pub mod OneNumber
+pub mod Uncovered
+pub mod Answered

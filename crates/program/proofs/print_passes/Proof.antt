@@ -26,14 +26,14 @@ module _ (s : List ℕ) (m : ℕ) (zs : List ℤ) (z : ℤ) (h : Numbers s m zs)
   numbers-next = record { long = omega (arith, l, length-set zs m z); each = λ i k. each-next i k (ℕ-discrete i m) }
 
 abbrev Inv-loop : tie.InvT-loop
-Inv-loop file passes room₀ numbers₀ i₀ room numbers i =
-    (i ≤ passes) × (length room ≡ length room₀) × (length numbers ≡ length numbers₀) × Numbers file i numbers
+Inv-loop file passes room₀ numbers₀ written₀ i₀ room numbers written i =
+    (i ≤ passes) × (written ≤ i) × (length room ≡ length room₀) × (length numbers ≡ length numbers₀) × Numbers file i numbers
 
 abbrev μ-loop : tie.MeasureT-loop
-μ-loop file passes room₀ numbers₀ i₀ room numbers i = passes - i
+μ-loop file passes room₀ numbers₀ written₀ i₀ room numbers written i = passes - i
 
 loop-holds : tie.Need-loop-holds Inv-loop μ-loop
-loop-holds c = (omega arith, refl, refl, record { long = omega arith; each = λ i l. absurd (omega arith) })
+loop-holds c = (omega arith, omega arith, refl, refl, record { long = omega arith; each = λ i l. absurd (omega arith) })
 
 print-pass-requires : tie.Need-print-pass-requires Inv-loop μ-loop
 print-pass-requires c κs = search needs
@@ -44,6 +44,9 @@ mul-n c = search needs
 slice-set-from-n : tie.Need-slice-set-from-n Inv-loop μ-loop
 slice-set-from-n c = search needs
 
+counted-requires : tie.Need-counted-requires Inv-loop μ-loop
+counted-requires c κs = search needs
+
 add-i : tie.Need-add-i Inv-loop μ-loop
 add-i c = search needs
 
@@ -52,13 +55,13 @@ loop-less c = search needs
 
 loop-again : tie.Need-loop-again Inv-loop μ-loop
 loop-again c =
-    let s = c .before .before .before .before .before .before .before .before in
-    let l = c .before .before .before .before .before .loop in
-    let p = c .before .before .print-pass in
-    let t = c .before .before .before .before .loop-test .taken in
-    let e = ret (p .result) (p .ok) ∙ p .ensures in
-    let m : l .i < length (l .numbers) = omega (arith, t, s .pre .1, l .inv .2) in
-    (omega (arith, t), search needs, length-set (l .numbers) (l .i) _ ∙ l .inv .2, numbers-next (s .args .file .now) (l .i) (l .numbers) _ (l .inv .3) m e)
+    let p = c .before .before .before .before .print-pass in
+    let l = c .before .before .before .before .before .before .before .loop in
+    let s = c .before .before .before .before .before .before .before .before .before .before in
+    let t = c .before .before .before .before .before .before .loop-test .taken in
+    let e = ret (p .result .refusal) (c .before .struct-told .given .0 .1) ∙ p .ensures in
+    let m : l .i < length (l .numbers) = omega (arith, t, s .pre .1, l .inv .3) in
+    (omega (arith, t), omega (arith, l .inv .1, c .counted .ensures), search needs, length-set (l .numbers) (l .i) _ ∙ l .inv .3, numbers-next (s .args .file .now) (l .i) (l .numbers) _ (l .inv .4) m e)
 
 same-length : tie.Need-same-length Inv-loop μ-loop
 same-length c = search needs
@@ -70,7 +73,7 @@ returns : tie.Need-returns Inv-loop μ-loop
 returns c =
     let l = c .before .loop in
     let e : l .i ≡ c .before .before .before .before .args .passes = omega (arith, l .inv .0, c .loop-test .left) in
-    subst (λ (m : ℕ). Numbers (c .before .before .before .before .args .file .now) m (l .numbers)) e (l .inv .3)
+    subst (λ (m : ℕ). Numbers (c .before .before .before .before .args .file .now) m (l .numbers)) e (l .inv .4)
 
 pub print-passes-spec : {M : Type 1} → statement M
 print-passes-spec =
@@ -82,6 +85,7 @@ print-passes-spec =
     print-pass-requires
     mul-n
     slice-set-from-n
+    counted-requires
     add-i
     loop-less
     loop-again

@@ -22,9 +22,11 @@ explain-names-requires c κs =
 explain-days-requires : tie.Need-explain-days-requires
 explain-days-requires c κs =
     let s = c .before .before .before in
+    let six =
     six-else (s .args .file .now) (s .pre .0) (s .args .i) (s .pre .1)
     (λ z. no-ft (ap (leZ (pos 1)) (sym (s .pre .2 ∙ z)) ∙ s .pre .3))
-    (λ z. c .if1 .left (ap (ofZ w64) (s .pre .2 ∙ z)))
+    (λ z. c .if1 .left (ap (ofZ w64) (s .pre .2 ∙ z))) in
+    (s .pre .0, s .pre .1, six)
 
 slice-aggregate-say : tie.Need-slice-aggregate-say
 slice-aggregate-say c = search needs
