@@ -1,12 +1,12 @@
 // Questions on ticks, epochs and Earth rotation, 1 to 7.
+use crate::numbers::Head;
+use crate::numbers::unsigned;
 use crate::print::print_number;
 use crate::print::print_numbers;
-use text::words::bits_at;
-use text::words::number_at;
 
 // A negative tick is read modulo 2^32.
-fn tick(bits: u64) -> u32 {
-    (bits % 4294967296) as u32
+fn tick(a: i64) -> u32 {
+    (unsigned(a) % 4294967296) as u32
 }
 
 fn print_value(n: i64) {
@@ -14,7 +14,8 @@ fn print_value(n: i64) {
     print_numbers(&row);
 }
 
-fn print_arguments(a: earth::TicksAnswer) {
+fn arguments(day: i64, ms: i64, tai: i64) {
+    let a = earth::arguments(day, ms, tai);
     let row = [
         a.refusal,
         a.n,
@@ -27,47 +28,48 @@ fn print_arguments(a: earth::TicksAnswer) {
     print_numbers(&row);
 }
 
-fn print_angle(a: earth::AngleAnswer) {
+fn angle_at(day: i64, f: i64) {
+    let a = earth::angle_at(day, f);
     let row = [a.refusal, a.e, a.tick as i64];
     print_numbers(&row);
 }
 
-fn print_epoch(a: earth::EpochAnswer) {
+fn later(day: i64, ms: i64, add: i64) {
+    let a = earth::later(day, ms, add);
     let row = [a.refusal, a.day, a.ms];
     print_numbers(&row);
 }
 
-fn print_rotation(m: [[i64; 3]; 3]) {
-    let row = [
-        m[0][0],
-        m[0][1],
-        m[0][2],
-        m[1][0],
-        m[1][1],
-        m[1][2],
-        m[2][0],
-        m[2][1],
-        m[2][2],
-    ];
+// A row of the rotation.
+struct Row(i64, i64, i64);
+
+fn row_of(x: [i64; 3]) -> Row {
+    Row(x[0], x[1], x[2])
+}
+
+fn print_rows(x: Row, y: Row, z: Row) {
+    let row = [x.0, x.1, x.2, y.0, y.1, y.2, z.0, z.1, z.2];
     print_numbers(&row);
 }
 
-fn answer_with(what: i64, t: u32, a: i64, b: i64, c: i64) {
+fn rotate(t: u32) {
+    let m = earth::rotate(t);
+    print_rows(row_of(m[0]), row_of(m[1]), row_of(m[2]));
+}
+
+fn call(what: i64, a: i64, b: i64, c: i64) {
     match what {
-        1 => print_value(sine::sine(t)),
-        2 => print_value(sine::cosine(t)),
-        3 => print_arguments(earth::arguments(a, b, c)),
+        1 => print_value(sine::sine(tick(a))),
+        2 => print_value(sine::cosine(tick(a))),
+        3 => arguments(a, b, c),
         4 => print_number(earth::tide(a, b, c)),
-        5 => print_angle(earth::angle_at(a, b)),
-        6 => print_epoch(earth::later(a, b, c)),
-        7 => print_rotation(earth::rotate(t)),
+        5 => angle_at(a, b),
+        6 => later(a, b, c),
+        7 => rotate(tick(a)),
         _ => {}
     }
 }
 
-pub(crate) fn answer(what: i64, head: &[u8; 64]) {
-    let a = number_at(head, 8);
-    let b = number_at(head, 16);
-    let c = number_at(head, 24);
-    answer_with(what, tick(bits_at(head, 8)), a, b, c);
+pub(crate) fn answer(head: Head) {
+    call(head.what, head.a, head.b, head.c);
 }

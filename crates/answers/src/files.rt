@@ -1,35 +1,42 @@
-// Questions on the records, the days and the delays of a session file, 8 to 15.
+// Questions on the records, the days and the delays of a session file, 8 to 16.
+use crate::numbers::Head;
+use crate::numbers::index;
 use crate::print::print_number;
 use crate::print::print_numbers;
-use text::words::bits_at;
-use text::words::number_at;
+use crate::rooms::samples_with_room;
 
-fn print_check(a: session::Counts) {
+fn check(file: &[u8]) {
+    let a = session::check(file);
     let row = [a.refusal, a.stations, a.sources, a.days, a.passes];
     print_numbers(&row);
 }
 
-fn print_fault(a: session::Place) {
+fn fault(file: &[u8]) {
+    let a = session::fault(file);
     let row = [a.number, a.section, a.record, a.field];
     print_numbers(&row);
 }
 
-fn print_station(a: session::StationAnswer) {
+fn station_at(file: &[u8], i: usize) {
+    let a = session::station_at(file, i);
     let row = [a.refusal, a.id, a.x, a.y, a.z];
     print_numbers(&row);
 }
 
-fn print_source(a: session::SourceAnswer) {
+fn source_at(file: &[u8], i: usize) {
+    let a = session::source_at(file, i);
     let row = [a.refusal, a.id, a.right_ascension, a.declination];
     print_numbers(&row);
 }
 
-fn print_day(a: session::DayAnswer) {
+fn day_at(file: &[u8], i: usize) {
+    let a = session::day_at(file, i);
     let row = [a.refusal, a.mjd, a.x, a.y, a.ut1_utc, a.tai_utc];
     print_numbers(&row);
 }
 
-fn print_pass(a: session::PassAnswer) {
+fn pass_at(file: &[u8], i: usize) {
+    let a = session::pass_at(file, i);
     let row = [
         a.refusal,
         a.station1,
@@ -44,35 +51,33 @@ fn print_pass(a: session::PassAnswer) {
     print_numbers(&row);
 }
 
-fn print_orientation(a: delay::EarthAnswer) {
+fn record_at(what: i64, file: &[u8], i: usize) {
+    match what {
+        10 => station_at(file, i),
+        11 => source_at(file, i),
+        12 => day_at(file, i),
+        _ => pass_at(file, i),
+    }
+}
+
+fn orientation(file: &[u8], day: i64, ms: i64) {
+    let a = delay::orientation(file, day, ms);
     let row = [a.refusal, a.x, a.y, a.ut1_used, a.tick as i64];
     print_numbers(&row);
 }
 
-fn answer_delay(head: &[u8; 64], file: &[u8]) {
-    let station1 = number_at(head, 8);
-    let station2 = number_at(head, 16);
-    let source = number_at(head, 24);
-    let day = number_at(head, 32);
-    let ms = number_at(head, 40);
-    print_number(delay::delay(file, station1, station2, source, day, ms));
+fn delay_of(head: Head, file: &[u8]) {
+    print_number(delay::delay(file, head.a, head.b, head.c, head.d, head.e));
 }
 
-fn answer_record(what: i64, index: usize, file: &[u8]) {
+pub(crate) fn answer(head: Head, file: &[u8]) {
+    let what = head.what;
     match what {
-        10 => print_station(session::station_at(file, index)),
-        11 => print_source(session::source_at(file, index)),
-        12 => print_day(session::day_at(file, index)),
-        _ => print_pass(session::pass_at(file, index)),
-    }
-}
-
-pub(crate) fn answer(what: i64, head: &[u8; 64], file: &[u8]) {
-    match what {
-        8 => print_check(session::check(file)),
-        9 => print_fault(session::fault(file)),
-        14 => print_orientation(delay::orientation(file, number_at(head, 8), number_at(head, 16))),
-        15 => answer_delay(head, file),
-        _ => answer_record(what, bits_at(head, 8) as usize, file),
+        8 => check(file),
+        9 => fault(file),
+        14 => orientation(file, head.a, head.b),
+        15 => delay_of(head, file),
+        16 => samples_with_room(file, index(head.a), index(head.room)),
+        _ => record_at(what, file, index(head.a)),
     }
 }

@@ -1,12 +1,12 @@
-// Questions on the lent bytes as whole numbers, 16 to 20. Those with a room are answered in rooms.rt.
-ghost use Prim.Native.Nat.{_*_, _≤_};
-ghost use lib.ListN.{length};
+// Questions on the lent bytes as whole numbers, 17 to 20. Those with a room are answered in rooms.rt.
+use crate::numbers::Head;
+use crate::numbers::index;
+use crate::numbers::numbers_of;
+use crate::numbers::unsigned;
 use crate::print::print_bits;
 use crate::print::print_number;
-use crate::rooms::answer_bytes;
-use crate::rooms::answer_numbers;
-use text::words::bits_at;
-use text::words::number_at;
+use crate::rooms::track_with_room;
+use crate::rooms::write_with_room;
 use whole::sign::size;
 
 // The bits of a double; 0 for one that is no number.
@@ -17,50 +17,30 @@ fn bits(x: f64) -> u64 {
     0
 }
 
-fn print_host(h: predict::Host) {
+fn host_at(track: &[i64], sample: u64) {
+    let h = predict::host_at(track, sample);
     let r = h.record;
     print_bits(size(h.refusal), b' ');
     print_bits(bits(r.seconds), b' ');
     print_bits(bits(r.cycles), b'\n');
 }
 
-fn answer_list(what: i64, head: &[u8; 64], file: &[u8], list: &[i64]) {
+fn call(head: Head, list: &[i64]) {
+    let what = head.what;
     match what {
-        17 => answer_bytes(head, list),
-        19 => print_number(predict::predict(list, bits_at(head, 8))),
-        20 => print_host(predict::host_at(list, bits_at(head, 8))),
-        _ => answer_numbers(what, head, file, list),
+        17 => write_with_room(head, list),
+        18 => track_with_room(list, head.a, index(head.room)),
+        19 => print_number(predict::predict(list, unsigned(head.a))),
+        _ => host_at(list, unsigned(head.a)),
     }
 }
 
-// The numbers of the bytes, from the first on.
-fn numbers_of(bytes: &[u8], list: &mut [i64])
-    requires { ⌜ 8 * length (now list) ≤ length (now bytes) ⌝ }
-{
-    let mut i: usize = 0;
-    while i < list.len() {
-        list[i] = number_at(bytes, 8 * i);
-        i += 1;
-    }
-}
-
-fn read_and_answer(what: i64, head: &[u8; 64], file: &[u8], list: &mut [i64])
-    requires { ⌜ 8 * length (now list) ≤ length (now file) ⌝ }
-{
-    numbers_of(file, list);
-    answer_list(what, head, file, list);
-}
-
-fn answer_in(what: i64, head: &[u8; 64], file: &[u8], space: &mut [i64]) {
+pub(crate) fn answer(head: Head, file: &[u8]) {
+    let mut space = [0i64; 8200];
     let n = file.len() / 8;
-    if n <= space.len() {
-        read_and_answer(what, head, file, &mut space[..n]);
-    }
-}
-
-pub(crate) fn answer(what: i64, head: &[u8; 64], file: &[u8]) {
-    if what <= 20 {
-        let mut space = [0i64; 8200];
-        answer_in(what, head, file, &mut space);
+    if n <= 8200 {
+        let list = &mut space[0..n];
+        numbers_of(file, list);
+        call(head, list);
     }
 }

@@ -5,47 +5,68 @@ ghost use lib.ListN.{length};
 mod angles;
 mod files;
 mod lists;
+mod numbers;
 mod print;
 mod rooms;
 
-use text::words::bits_at;
-use text::words::number_at;
+use numbers::Head;
+use numbers::head_of;
+use numbers::index;
 
-fn answer(head: &[u8; 64], file: &[u8]) {
-    let what = number_at(head, 0);
+fn answer(head: Head, file: &[u8]) {
+    let what = head.what;
     if what <= 7 {
-        angles::answer(what, head);
-    } else if what <= 15 {
-        files::answer(what, head, file);
-    } else {
-        lists::answer(what, head, file);
+        angles::answer(head);
+    } else if what <= 16 {
+        files::answer(head, file);
+    } else if what <= 20 {
+        lists::answer(head, file);
     }
 }
 
-// Takes in the bytes that follow the head, if they have room, in place of the n that are lent; how many are lent then.
-fn lend(space: &mut [u8], n: usize, head: &[u8; 64]) -> usize
+// Takes in m bytes, if there is room for them, in place of the n that are lent; how many are lent then.
+fn lend(space: &mut [u8], n: usize, m: usize) -> usize
     requires { ⌜ n ≤ length (now space) ⌝ }
     ensures { λ r. ⌜ r ≤ length (now (space .exit)) ⌝ }
 {
-    let m = bits_at(head, 56) as usize;
     if m <= space.len() {
-        return io::read_full(0, &mut space[..m]);
+        return io::read_full(0, &mut space[0..m]);
     }
     n
 }
 
-fn read_head(head: &mut [u8; 64]) -> bool {
-    io::read_full(0, head) == 64
+fn lend_and_answer(head: Head, space: &mut [u8], n: usize) -> usize
+    requires { ⌜ n ≤ length (now space) ⌝ }
+{
+    let lent = lend(space, n, index(head.length));
+    answer(head, &space[0..lent]);
+    lent
+}
+
+fn answer_head(bytes: &[u8], space: &mut [u8], n: usize) -> usize
+    requires { ⌜ n ≤ length (now space) ⌝ }
+{
+    if bytes.len() < 64 {
+        return usize::MAX;
+    }
+    lend_and_answer(head_of(bytes), space, n)
+}
+
+// Reads a question and answers it. What it answers is how many bytes are lent then, or, where the input has ended, more than there is room for.
+fn answer_next(space: &mut [u8], n: usize) -> usize
+    requires { ⌜ n ≤ length (now space) ⌝ }
+{
+    let mut bytes = [0u8; 64];
+    let got = io::read_full(0, &mut bytes);
+    answer_head(&bytes[..got], space, n)
 }
 
 // Nothing says that an input ends, so the questions are counted, from a number that no run uses up.
 fn answer_all(space: &mut [u8]) {
-    let mut head = [0u8; 64];
     let mut n: usize = 0;
     let mut left = u64::MAX;
-    while left > 0 && read_head(&mut head) {
-        n = lend(space, n, &head);
-        answer(&head, &space[..n]);
+    while left > 0 && n <= space.len() {
+        n = answer_next(space, n);
         left -= 1;
     }
 }

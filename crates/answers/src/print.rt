@@ -10,7 +10,7 @@ fn place(buffer: &[u8], at: usize, more: usize) -> usize
     ensures { λ r. ⌜ r + more ≤ length (now (buffer .entry)) ⌝ }
 {
     if buffer.len() - at < more {
-        io::write_all(STDOUT_FILENO, &buffer[..at]);
+        io::write_all(STDOUT_FILENO, &buffer[0..at]);
         return 0;
     }
     at
@@ -22,7 +22,7 @@ fn end_line(buffer: &mut [u8], at: usize)
 {
     let end = place(buffer, at, 1);
     buffer[end] = b'\n';
-    io::write_all(STDOUT_FILENO, &buffer[..end + 1]);
+    io::write_all(STDOUT_FILENO, &buffer[0..end + 1]);
 }
 
 // A number and a space.

@@ -1,35 +1,21 @@
--- `answers::answer_all` is safe and ends: what is lent fits the space, and the measure is the number of questions that are left.
+-- `answers::answer_all` is safe and ends: the space keeps its length, and the measure is the number of questions that are left.
 use borrow.Author.Needs.{needs}
-use mathlib.Core.Path.{_≡_, sym}
-use Prim.Native.Nat.{_≤_}
+use mathlib.Core.Path.{_≡_}
 use lib.ListN.{length}
-use lib.Seq.{length-take-le}
 use Rattle.answers.proofs.answer_all.Statement.{statement}
 use Rattle.answers.proofs.answer_all.Tie as tie
 
 abbrev Inv-loop : tie.InvT-loop
-Inv-loop space₀ head₀ n₀ left₀ space head n left = (n ≤ length space) × (length space ≡ length space₀)
+Inv-loop space₀ n₀ left₀ space n left = length space ≡ length space₀
 
 abbrev μ-loop : tie.MeasureT-loop
-μ-loop space₀ head₀ n₀ left₀ space head n left = left
+μ-loop space₀ n₀ left₀ space n left = left
 
 loop-holds : tie.Need-loop-holds Inv-loop μ-loop
 loop-holds c = search needs
 
-read-head-requires : tie.Need-read-head-requires Inv-loop μ-loop
-read-head-requires c κs = search needs
-
-lend-requires : tie.Need-lend-requires Inv-loop μ-loop
-lend-requires c κs = search needs
-
-slice-reshare-prefix-answer : tie.Need-slice-reshare-prefix-answer Inv-loop μ-loop
-slice-reshare-prefix-answer c = search needs
-
-slice-aggregate-answer : tie.Need-slice-aggregate-answer Inv-loop μ-loop
-slice-aggregate-answer c = sym (length-take-le _ _ (slice-reshare-prefix-answer (c .before)))
-
-answer-requires : tie.Need-answer-requires Inv-loop μ-loop
-answer-requires c κs = search needs
+answer-next-requires : tie.Need-answer-next-requires Inv-loop μ-loop
+answer-next-requires c κs = search needs
 
 sub-left : tie.Need-sub-left Inv-loop μ-loop
 sub-left c = search needs
@@ -59,11 +45,7 @@ answer-all-spec =
     Inv-loop
     μ-loop
     loop-holds
-    read-head-requires
-    lend-requires
-    slice-reshare-prefix-answer
-    slice-aggregate-answer
-    answer-requires
+    answer-next-requires
     sub-left
     loop-less
     loop-again

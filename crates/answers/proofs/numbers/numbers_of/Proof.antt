@@ -1,11 +1,11 @@
--- `answers::lists::numbers_of` is safe and ends: the list stays as long as it was, and the measure is what is left of it.
+-- `answers::numbers::numbers_of` is safe and ends: the list stays as long as it was, and the measure is what is left of it.
 use borrow.Author.Needs.{needs}
 use mathlib.Core.Path.{_≡_, refl, _∙_}
 use Prim.Native.Nat.{_-_, _≤_}
 use native.Mathlib.Omega.{arith}
 use lib.ListN.{length, length-set}
-use Rattle.answers.proofs.lists.numbers_of.Statement.{statement}
-use Rattle.answers.proofs.lists.numbers_of.Tie as tie
+use Rattle.answers.proofs.numbers.numbers_of.Statement.{statement}
+use Rattle.answers.proofs.numbers.numbers_of.Tie as tie
 
 abbrev Inv-loop : tie.InvT-loop
 Inv-loop bytes list₀ i₀ list i = (i ≤ length list) × (length list ≡ length list₀)
