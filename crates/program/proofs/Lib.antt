@@ -1,3 +1,2 @@
 pub mod OneNumber
-pub mod Uncovered
 pub mod Answered

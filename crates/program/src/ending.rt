@@ -7,9 +7,9 @@ ghost use lib.IntN.{pos};
 ghost use Rattle.whole.specs.Each.{allBelow};
 ghost use Rattle.sections.specs.File.{eqZ};
 ghost use Rattle.program.specs.Endings.{passAnswered, statusBy};
-ghost use Rattle.program.specs.Numbers.{Numbers};
-use crate::say::say;
-use crate::say::say_natural;
+ghost use Rattle.explain.specs.Numbers.{Numbers};
+use explain::say::say;
+use explain::say::say_natural;
 
 // ---- what was lost
 

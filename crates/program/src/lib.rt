@@ -5,16 +5,11 @@ ghost use lib.ListN.{length};
 ghost use Rattle.session.specs.Records.{checkOf};
 ghost use Rattle.lines.specs.Text.{refusedLine, lentOutcome, passText, passTexts, sessionText};
 ghost use Rattle.program.specs.Endings.{allAnswered};
-ghost use Rattle.program.specs.Numbers.{Numbers};
+ghost use Rattle.explain.specs.Numbers.{Numbers};
 ghost use Rattle.program.specs.Promises.{RunPromise};
 
-mod contents;
-mod days;
 mod ending;
-mod explain;
-mod fault;
 mod input;
-mod say;
 
 use ending::lost_any;
 use ending::passes_answered;

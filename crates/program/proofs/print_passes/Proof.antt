@@ -11,7 +11,7 @@ use lib.ListN.{length, getD, set, length-set}
 use lib.Seq.{getD-set-same, getD-set-other}
 use Rattle.whole.proofs.Linear.{ret}
 use Rattle.lines.specs.Text.{lentOutcome}
-use Rattle.program.specs.Numbers.{Numbers}
+use Rattle.explain.specs.Numbers.{Numbers}
 use Rattle.program.proofs.print_passes.Statement.{statement}
 use Rattle.program.proofs.print_passes.Tie as tie
 

@@ -8,8 +8,8 @@ use Rattle.whole.proofs.Machine.{var, is}
 use Rattle.earth.specs.declared.time.Epoch.{Epoch}
 use Rattle.delay.specs.Sessions.{sampleEpoch}
 use Rattle.delay.proofs.Epochs.{sample-day}
-use Rattle.program.proofs.days.covered.Statement.{statement}
-use Rattle.program.proofs.days.covered.Tie as tie
+use Rattle.explain.proofs.days.covered.Statement.{statement}
+use Rattle.explain.proofs.days.covered.Tie as tie
 
 sample-epoch-requires : tie.Need-sample-epoch-requires
 sample-epoch-requires c κs = search needs

@@ -1,8 +1,8 @@
 -- `program::explain::has` meets what its two calls ask: the file is accepted.
 use Rattle.lines.proofs.Passes.{accepted}
 use borrow.Author.Needs.{needs}
-use Rattle.program.proofs.explain.has.Statement.{statement}
-use Rattle.program.proofs.explain.has.Tie as tie
+use Rattle.explain.proofs.has.Statement.{statement}
+use Rattle.explain.proofs.has.Tie as tie
 
 place-by-requires : tie.Need-place-by-requires
 place-by-requires c κs = let s = c .before in (accepted (s .args .file .now) (s .pre .0), s .pre .1)

@@ -9,8 +9,8 @@ use Rattle.whole.proofs.Tests.{failed, passed}
 use Rattle.delay.specs.Calls.{samplesOf}
 use Rattle.delay.specs.Sessions.{covers, sampleEpoch}
 use Rattle.delay.proofs.Epochs.{samples-count, samples-read, samples-cast}
-use Rattle.program.proofs.days.first_uncovered.Statement.{statement}
-use Rattle.program.proofs.days.first_uncovered.Tie as tie
+use Rattle.explain.proofs.days.first_uncovered.Statement.{statement}
+use Rattle.explain.proofs.days.first_uncovered.Tie as tie
 
 abbrev Inv-loop : tie.InvT-loop
 Inv-loop file p n i₀ i = (i ≤ n) × (firstNot i (λ (j : ℕ). covers file (sampleEpoch p j .day)) ≡ i)

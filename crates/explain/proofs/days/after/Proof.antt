@@ -2,8 +2,8 @@
 use borrow.Author.Needs.{needs}
 use lib.IntN.{pos}
 use Rattle.whole.proofs.Machine.{lit, var, _⊞_, ok}
-use Rattle.program.proofs.days.after.Statement.{statement}
-use Rattle.program.proofs.days.after.Tie as tie
+use Rattle.explain.proofs.days.after.Statement.{statement}
+use Rattle.explain.proofs.days.after.Tie as tie
 
 add-result : tie.Need-add-result
 add-result c = ok (var (c .args .day) 1_000_000 (c .pre) ⊞ lit (pos 1)) tt

@@ -10,7 +10,7 @@ ghost use Rattle.session.specs.Records.{checkOf};
 ghost use Rattle.delay.specs.Calls.{samplesOf};
 ghost use Rattle.delay.specs.Sessions.{covers, sampleEpoch};
 ghost use Rattle.lines.specs.Text.{lentOutcome};
-use crate::explain::has;
+use crate::has;
 use crate::fault::one_less;
 use crate::say::say;
 use crate::say::say_decimal;

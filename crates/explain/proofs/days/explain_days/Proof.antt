@@ -19,9 +19,9 @@ use Rattle.delay.specs.Calls.{samplesOf}
 use Rattle.delay.specs.Sessions.{covers, sampleEpoch}
 use Rattle.delay.proofs.Epochs.{samples-count, sample-day}
 use Rattle.lines.proofs.Passes.{accepted, counted}
-use Rattle.program.proofs.Uncovered.{uncovered}
-use Rattle.program.proofs.days.explain_days.Statement.{statement}
-use Rattle.program.proofs.days.explain_days.Tie as tie
+use Rattle.explain.proofs.Uncovered.{uncovered}
+use Rattle.explain.proofs.days.explain_days.Statement.{statement}
+use Rattle.explain.proofs.days.explain_days.Tie as tie
 
 there : (s : tie.Start) → s .args .i < countOf (s .args .file .now) 3
 there s = omega (arith, s .pre .1, counted (s .args .file .now) (s .pre .0))

@@ -8,8 +8,8 @@ use mir.Val.{ofZ}
 use Rattle.whole.proofs.Linear.{bits-eq, no-ft}
 use Rattle.lines.proofs.Passes.{six-else}
 use borrow.Author.Needs.{needs}
-use Rattle.program.proofs.explain.explain_pass.Statement.{statement}
-use Rattle.program.proofs.explain.explain_pass.Tie as tie
+use Rattle.explain.proofs.explain_pass.Statement.{statement}
+use Rattle.explain.proofs.explain_pass.Tie as tie
 
 refused-pass-requires : tie.Need-refused-pass-requires
 refused-pass-requires c κs = search needs

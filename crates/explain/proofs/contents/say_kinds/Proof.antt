@@ -1,8 +1,8 @@
 -- `program::contents::say_kinds` looks at each kind in turn.
 use borrow.Author.Needs.{needs}
 use Prim.Native.Nat.{_-_, _≤_}
-use Rattle.program.proofs.contents.say_kinds.Statement.{statement}
-use Rattle.program.proofs.contents.say_kinds.Tie as tie
+use Rattle.explain.proofs.contents.say_kinds.Statement.{statement}
+use Rattle.explain.proofs.contents.say_kinds.Tie as tie
 
 abbrev Inv-loop : tie.InvT-loop
 Inv-loop place said₀ kind₀ said kind = kind ≤ 256

@@ -7,14 +7,20 @@ ghost use lib.Signed.{leZ};
 ghost use Rattle.whole.specs.Whole.{∣_∣};
 ghost use Rattle.session.specs.Records.{checkOf};
 ghost use Rattle.lines.specs.Text.{lentOutcome};
-ghost use Rattle.program.specs.Numbers.{Numbers};
-use crate::contents::explain_contents;
-use crate::days::explain_days;
-use crate::fault::explain_fault;
-use crate::say::say;
-use crate::say::say_decimal;
-use crate::say::say_field;
-use crate::say::say_natural;
+ghost use Rattle.explain.specs.Numbers.{Numbers};
+
+mod contents;
+mod days;
+mod fault;
+pub mod say;
+
+use contents::explain_contents;
+use days::explain_days;
+use fault::explain_fault;
+use say::say;
+use say::say_decimal;
+use say::say_field;
+use say::say_natural;
 use sections::refusal::count_of;
 use session::records::place_by;
 use whole::sign::size;
@@ -22,7 +28,7 @@ use whole::sign::size;
 // ---- a file
 
 // What the refusal of a file means, and where it arises.
-pub(crate) fn explain_file(file: &[u8]) {
+pub fn explain_file(file: &[u8]) {
     let p = session::fault(file);
     say(b"refused ");
     say_decimal(p.number);
@@ -93,7 +99,7 @@ fn explain_pass(file: &[u8], i: usize, n: i64)
 }
 
 // What the numbers of the refused passes mean.
-pub(crate) fn explain_passes(file: &[u8], passes: usize, numbers: &[i64])
+pub fn explain_passes(file: &[u8], passes: usize, numbers: &[i64])
     requires { ⌜ (checkOf (now file) .refusal ≡ pos 0) × (passes ≡ ∣ checkOf (now file) .passes ∣) × Numbers (now file) passes (now numbers) ⌝ }
 {
     let mut i: usize = 0;

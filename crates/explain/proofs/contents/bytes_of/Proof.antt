@@ -3,8 +3,8 @@ use borrow.Author.Needs.{needs}
 use Prim.Native.Nat.{_*_, _≤_}
 use native.Mathlib.Omega.{arith}
 use Rattle.whole.proofs.Products.{below}
-use Rattle.program.proofs.contents.bytes_of.Statement.{statement}
-use Rattle.program.proofs.contents.bytes_of.Tie as tie
+use Rattle.explain.proofs.contents.bytes_of.Statement.{statement}
+use Rattle.explain.proofs.contents.bytes_of.Tie as tie
 
 at-most-requires : tie.Need-at-most-requires
 at-most-requires c κs = search needs

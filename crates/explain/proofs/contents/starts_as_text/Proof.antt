@@ -1,8 +1,8 @@
 -- `program::contents::starts_as_text` reads no byte that the file does not have.
 use borrow.Author.Needs.{needs}
 use Prim.Native.Nat.{_-_, _≤_}
-use Rattle.program.proofs.contents.starts_as_text.Statement.{statement}
-use Rattle.program.proofs.contents.starts_as_text.Tie as tie
+use Rattle.explain.proofs.contents.starts_as_text.Statement.{statement}
+use Rattle.explain.proofs.contents.starts_as_text.Tie as tie
 
 abbrev Inv-loop : tie.InvT-loop
 Inv-loop file i₀ i = i ≤ 32

@@ -4,7 +4,7 @@ use text::lines::line_of;
 use whole::sign::number;
 ghost use Prim.Native.Nat.{_<_};
 
-pub(crate) fn say(words: &[u8]) {
+pub fn say(words: &[u8]) {
     io::write_all(2, words);
 }
 
@@ -15,7 +15,7 @@ pub(crate) fn say_decimal(z: i64) {
     say(digits);
 }
 
-pub(crate) fn say_natural(n: u64) {
+pub fn say_natural(n: u64) {
     io::print_decimal(2, n);
 }
 

@@ -6,8 +6,8 @@ use native.Mathlib.Omega.{arith}
 use lib.IntN.{pos}
 use lib.ListN.{getD}
 use Rattle.whole.proofs.Linear.{ret}
-use Rattle.program.proofs.explain.explain_passes.Statement.{statement}
-use Rattle.program.proofs.explain.explain_passes.Tie as tie
+use Rattle.explain.proofs.explain_passes.Statement.{statement}
+use Rattle.explain.proofs.explain_passes.Tie as tie
 
 abbrev Inv-loop : tie.InvT-loop
 Inv-loop file passes numbers i₀ i = i ≤ passes
