@@ -1,5 +1,4 @@
 // Questions on ticks, epochs and Earth rotation, 1 to 7.
-use crate::numbers::Head;
 use crate::numbers::unsigned;
 use crate::print::print_number;
 use crate::print::print_numbers;
@@ -57,7 +56,7 @@ fn rotate(t: u32) {
     print_rows(row_of(m[0]), row_of(m[1]), row_of(m[2]));
 }
 
-fn call(what: i64, a: i64, b: i64, c: i64) {
+pub(crate) fn answer(what: i64, a: i64, b: i64, c: i64) {
     match what {
         1 => print_value(sine::sine(tick(a))),
         2 => print_value(sine::cosine(tick(a))),
@@ -68,8 +67,4 @@ fn call(what: i64, a: i64, b: i64, c: i64) {
         7 => rotate(tick(a)),
         _ => {}
     }
-}
-
-pub(crate) fn answer(head: Head) {
-    call(head.what, head.a, head.b, head.c);
 }

@@ -13,10 +13,11 @@ use numbers::Head;
 use numbers::head_of;
 use numbers::index;
 
+// Any other `what` has its bytes lent and nothing more.
 fn answer(head: Head, file: &[u8]) {
     let what = head.what;
     if what <= 7 {
-        angles::answer(head);
+        angles::answer(what, head.a, head.b, head.c);
     } else if what <= 16 {
         files::answer(head, file);
     } else if what <= 20 {
@@ -35,24 +36,21 @@ fn lend(space: &mut [u8], n: usize, m: usize) -> usize
     n
 }
 
-fn lend_and_answer(head: Head, space: &mut [u8], n: usize) -> usize
-    requires { ⌜ n ≤ length (now space) ⌝ }
-{
-    let lent = lend(space, n, index(head.length));
-    answer(head, &space[0..lent]);
-    lent
-}
-
+// Answers the question with this head: how many bytes are lent then or, for a head that is cut short, more than the
+// space holds.
 fn answer_head(bytes: &[u8], space: &mut [u8], n: usize) -> usize
     requires { ⌜ n ≤ length (now space) ⌝ }
 {
     if bytes.len() < 64 {
         return usize::MAX;
     }
-    lend_and_answer(head_of(bytes), space, n)
+    let head = head_of(bytes);
+    let lent = lend(space, n, index(head.length));
+    answer(head, &space[0..lent]);
+    lent
 }
 
-// Reads a question and answers it. What it answers is how many bytes are lent then, or, where the input has ended, more than there is room for.
+// Reads a head and answers its question.
 fn answer_next(space: &mut [u8], n: usize) -> usize
     requires { ⌜ n ≤ length (now space) ⌝ }
 {

@@ -1,4 +1,5 @@
-// What is printed: lines of numbers, and a room of bytes as one line. A line is gathered in a buffer, which is written when it is full and when the line ends.
+// What is printed: lines of numbers, and a room of bytes as one line. A line is gathered in a buffer, which is written
+// when it is full and when the line ends.
 ghost use Prim.Native.Nat.{_+_, _<_, _≤_};
 ghost use lib.ListN.{length};
 use libc::STDOUT_FILENO;

@@ -1,4 +1,4 @@
--- `answers::answer_all` is safe and ends: the space keeps its length, and the measure is the number of questions that are left.
+-- `answers::answer_all` is safe and ends: the space keeps its length, and the measure is how many questions are left.
 use borrow.Author.Needs.{needs}
 use mathlib.Core.Path.{_≡_}
 use lib.ListN.{length}

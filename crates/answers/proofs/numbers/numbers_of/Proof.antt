@@ -1,6 +1,6 @@
--- `answers::numbers::numbers_of` is safe and ends: the list stays as long as it was, and the measure is what is left of it.
+-- `answers::numbers::numbers_of` is safe and ends: the list keeps its length, and the measure is what is left of it.
 use borrow.Author.Needs.{needs}
-use mathlib.Core.Path.{_≡_, refl, _∙_}
+use mathlib.Core.Path.{_≡_, _∙_}
 use Prim.Native.Nat.{_-_, _≤_}
 use native.Mathlib.Omega.{arith}
 use lib.ListN.{length, length-set}
@@ -35,7 +35,9 @@ loop-less : tie.Need-loop-less Inv-loop μ-loop
 loop-less c = search needs
 
 loop-again : tie.Need-loop-again Inv-loop μ-loop
-loop-again c = (simp length-set (omega arith), length-set (c .before .before .loop .list) (c .before .before .loop .i) _ ∙ c .before .before .loop .inv .1)
+loop-again c =
+    let l = c .before .before .loop in
+    (simp length-set (omega arith), length-set (l .list) (l .i) _ ∙ l .inv .1)
 
 same-length : tie.Need-same-length Inv-loop μ-loop
 same-length c = search needs

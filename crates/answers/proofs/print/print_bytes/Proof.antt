@@ -1,4 +1,4 @@
--- `answers::print::print_bytes` is safe and ends: the buffer keeps its length, and the measure is what is left of the bytes.
+-- `answers::print::print_bytes` is safe and ends: the buffer keeps its length, and the measure is the rest of the bytes.
 use borrow.Author.Needs.{needs}
 use mathlib.Core.Path.{_≡_}
 use Prim.Native.Nat.{ℕ, _-_, _≤_}
