@@ -71,7 +71,8 @@ def byte_of(file, place, record, field):
 def of_field(file, kind, record, field):
     place = kind - 1
     row, (low, high) = session.sections_of(file)[place][record], session.SECTIONS[place][1][field]
-    return words.of_range(place, kind, record, field, row[0], row[field], low, high, byte_of(file, place, record, field))
+    byte = byte_of(file, place, record, field)
+    return words.of_range(place, kind, record, field, row[0], row[field], low, high, byte)
 
 
 def of_order(file, number, kind, record):
@@ -99,9 +100,8 @@ def of_file(file):
 def of_names(lists, planned):
     """Field and id of each station and source that a pass names and the file lacks."""
     stations, sources, _, _ = lists
-    named = zip(planned, (stations, stations, sources))
-    absent = [(field, name) for field, (name, records) in enumerate(named) if name not in [record[0] for record in records]]
-    return words.of_names(absent)
+    there = [[record[0] for record in records] for records in (stations, stations, sources)]
+    return words.of_names([(field, planned[field]) for field in range(3) if planned[field] not in there[field]])
 
 
 def of_days(lists, planned):

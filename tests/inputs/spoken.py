@@ -1,7 +1,7 @@
-"""Session files made for what `tracks` says of them: text, ends of the orders of ids and days, and passes that leave the file's days."""
+"""Session files made for what `tracks` says of them: text, ends of ids and days, passes that leave its days."""
 
-import struct
-
+from damaged import with_word
+from reference import session
 from reference.earth import DAY_MS
 from reference.session import encode
 
@@ -20,7 +20,7 @@ def lists(stations=(10,), sources=(1,), days=(FIRST_DAY, FIRST_DAY + 1, LAST_DAY
 
 
 def texts():
-    """Text of several lengths; bytes just outside those of text, the first, the last of the 32 and the one behind them; and none at all."""
+    """Text of several lengths; bytes just outside those of text, among the 32 and behind them; and none at all."""
     sound = encode(lists())
     edges = [bytes([byte]) * 40 for byte in (9, 10, 13, 32, 126, 8, 11, 12, 14, 31, 127, 128, 255)]
     odd = [LETTERS[:at] + b"\0" + LETTERS[at + 1:] for at in (0, 7, 30, 31, 32, 40)]
@@ -31,18 +31,18 @@ def texts():
 def orders():
     """Ids that do not rise and days that do not follow, at and near the greatest."""
     ids = [(7, 5), (7, 7), (65_534, 65_534), (65_534, 65_535, 65_535), (65_535, 1), (1, 65_535, 2)]
-    days = [(60_000, 60_002), (60_000, 60_000), (69_805, 69_805), (69_806, 69_806), (69_806, 69_805), (69_805, 69_806, 41_317)]
+    days = [(60_000, 60_002), (60_000, 60_000), (69_805, 69_805), (69_806, 69_806), (69_806, 69_805)]
     return [
         *(encode(lists(stations=names)) for names in ids),
         *(encode(lists(sources=names)) for names in ids),
-        *(encode(lists(days=some)) for some in days),
+        *(encode(lists(days=some)) for some in (*days, (69_805, 69_806, 41_317))),
     ]
 
 
 def wrong_counts():
     """Counts that stay in their limits and are wrong: they show at the next first byte, the last one as the length."""
     file = encode(lists(stations=(10, 20, 30), sources=(1, 2), passes=2 * [(10, 20, 1, FIRST_DAY, 0, 1_000, 3, 0)]))
-    return [file[:at] + struct.pack("<q", struct.unpack_from("<q", file, at)[0] + 1) + file[at + 8:] for at in (24, 48, 72, 96)]
+    return [with_word(file, word, session.word(file, 8 * word) + 1) for word in (3, 6, 9, 12)]
 
 
 def planned(day, ms, step, samples):
@@ -50,7 +50,7 @@ def planned(day, ms, step, samples):
 
 
 def leaving():
-    """Passes that start before the file's days, that start on its last, and that reach it at a first, a later or the last sample."""
+    """Passes that start before the file's days, that start on its last, or that reach it later."""
     noon = DAY_MS // 2
     passes = [
         planned(FIRST_DAY - 2, noon, 1_000, 3),
@@ -66,7 +66,8 @@ def leaving():
         planned(FIRST_DAY + 1, noon, 1_234_567, 100),
         (10, 11, 2, LAST_DAY, 0, 1_000, 3, 0),
     ]
-    return [encode(lists(passes=passes)), encode(lists(days=(69_805, 69_806), passes=[planned(69_805, noon, 3_600_000, 24)]))]
+    last = lists(days=(69_805, 69_806), passes=[planned(69_805, noon, 3_600_000, 24)])
+    return [encode(lists(passes=passes)), encode(last)]
 
 
 def files():

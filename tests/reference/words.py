@@ -1,5 +1,6 @@
-"""The words that `tracks` says on standard error. They are the program's own, of crates/program/src, and stand here once more;
-the number, the place, the values, the ranges, the bytes, the pass, the sample, the days and the ids that they go with are the reference's.
+"""The words that `tracks` says on standard error. They are the program's own, of crates/program/src, and stand here again.
+
+The numbers, places, values, ranges, bytes, samples, days and ids that they go with are the reference's.
 """
 
 SECTIONS = ("stations", "sources", "days", "passes")
@@ -62,7 +63,8 @@ def of_first_byte(place, found, expected, count):
     if place == 0:
         return in_table(place, 1, found, "expected %d because the contents table has %d bytes" % (expected, expected))
     before = SECTIONS[place - 1]
-    return in_table(place, 1, found, "expected %d, where the %s end" % (expected, before)) + SHOWS_HERE % (before, count)
+    said = in_table(place, 1, found, "expected %d, where the %s end" % (expected, before))
+    return said + SHOWS_HERE % (before, count)
 
 
 def of_count(place, found, least, greatest):
@@ -93,7 +95,7 @@ def of_range(place, kind, record, field, name, found, low, high, byte):
 
 
 def of_order(place, kind, record, found, before, allowed, byte):
-    """A first field that is not as the one of the record before asks: `allowed` is one number, the least and the greatest, or none."""
+    """A first field that does not follow the record before: `allowed` has one number, two ends, or nothing."""
     name = FIELDS[place][0]
     may = "allowed %s because record %d has %s %d" % (" to ".join(map(str, allowed)), record - 1, name, before)
     may = may if allowed else LAST_ALONE % (record - 1, name, before)
@@ -102,11 +104,12 @@ def of_order(place, kind, record, found, before, allowed, byte):
 
 def of_names(lacking):
     """Refusal 5 of a pass: each field whose id the file lacks, and that id."""
-    return "the file lacks what the pass names" + "".join(", %s (id %d)" % (FIELDS[PASSES][field], name) for field, name in lacking)
+    names = (", %s (id %d)" % (FIELDS[PASSES][field], name) for field, name in lacking)
+    return "the file lacks what the pass names" + "".join(names)
 
 
 def of_days(sample, day, first, last, lacking):
-    """Refusal 6 of a pass: the first sample whose day, or the next, has no record; the file's days; and which of the two it lacks."""
+    """Refusal 6 of a pass: the first sample that lacks a day, its day, the file's days, and what is lacking."""
     needs = "sample %d is on MJD %d and needs the orientation of MJD %d and %d" % (sample, day, day, day + 1)
     lack = " and ".join(map(str, lacking)) + (" is" if len(lacking) == 1 else " are") + " lacking"
     return "%s; the file has MJD %d to %d, so %s" % (needs, first, last, lack)
@@ -114,7 +117,8 @@ def of_days(sample, day, first, last, lacking):
 
 def of_pass(index, number, said):
     """The line of a pass that is refused, in a file that is accepted."""
-    return "pass %d refused %d: %s; %s count from 0" % (index, number, said, "passes" if number == 5 else "passes and samples")
+    counted = "passes" if number == 5 else "passes and samples"
+    return "pass %d refused %d: %s; %s count from 0" % (index, number, said, counted)
 
 
 def of_file(number, said):

@@ -15,8 +15,9 @@ fn read_from(buffer: &mut [u8], n: usize) -> Input
 {
     let rest = &mut buffer[n..];
     let got = libc::read(0, rest);
+    let bytes = io::count(got, rest);
     Input {
-        bytes: io::count(got, rest),
+        bytes: bytes,
         failed: got < 0,
     }
 }
