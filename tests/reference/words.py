@@ -1,4 +1,4 @@
-"""The words that `tracks` says on standard error. They are the program's own, of crates/program/src, and stand here again.
+"""The words that `tracks` says on standard error: those of crates/program/src, once more.
 
 The numbers, places, values, ranges, bytes, samples, days and ids that they go with are the reference's.
 """

@@ -84,6 +84,11 @@ def told(tally):
     version = re.search(r'^#define FRINGE_VERSION "(\d+\.\d+\.\d+)"$', header, re.MULTILINE).group(1)
     kit = subprocess.run(["rt", "version"], stdout=subprocess.PIPE, check=True).stdout
     tally.equal("./tracks --version", ran("--version"), (0, b"erlensieg %s\n" % version.encode() + kit, ""))
+    for word in ("--help", "--version"):
+        with open("/dev/full", "wb") as out:
+            got = ran(word, stdout=out)
+        said = "tracks: standard output could not be written\n"
+        tally.check("./tracks %s to a full disk" % word, got[0] == 3 and got[2].endswith(said), "%.300r" % (got,))
 
 
 # ---- what is refused
