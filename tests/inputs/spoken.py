@@ -1,9 +1,10 @@
 """Session files made for what `tracks` says of them: text, ends of ids and days, passes that leave its days."""
 
-from damaged import with_word
 from reference import session
 from reference.earth import DAY_MS
 from reference.session import encode
+
+from .damaged import with_word
 
 LETTERS = b"A session file, typed by hand: stations first.\r\n\tid 7213, X 4075540000\n"
 FIRST_DAY, LAST_DAY = 60_000, 60_002
