@@ -1,4 +1,4 @@
-"""The words that `tracks` says on standard error: those of crates/program/src, once more.
+"""The words that `tracks` says on standard error: those of crates/explain/src and crates/program/src/ending.rt, once more.
 
 The numbers, places, values, ranges, bytes, samples, days and ids that they go with are the reference's.
 """

@@ -7,6 +7,8 @@ import textwrap
 
 import inputs.sample
 from erfa.places import ticks_of
+from inputs.damaged import with_word
+from inputs.program import printed, said
 from rattle import ROOT
 from reference import delay, program, session, track
 from reference.whole import R
@@ -68,7 +70,33 @@ def worked_place(sample):
     ])
 
 
-PARTS = {"sample-run": sample_run, "sample-explained": sample_explained, "worked-place": worked_place}
+def damaged(sample):
+    """The sample session with one mistake each: what was done to it, and its bytes."""
+    first_pass = session.word(sample, 88) // 8
+    return (
+        ("a station counted that is not there", with_word(sample, 3, 4)),
+        ("the last number cut off", sample[:-8]),
+        ("text", b"Onsala 3370606 711918 5349831\nWettzell 4075540 931735 4801629\n"),
+        ("X of the first station a millimetre too large", with_word(sample, 14, 6_400_000_001)),
+        ("the second station given the id of the first", with_word(sample, 17, 7213)),
+        ("the second day left out and the third in its place", with_word(sample, session.word(sample, 64) // 8 + 5, 54197)),
+        ("a pass that names no station of the file", with_word(sample, first_pass, 7214)),
+        ("a pass on the file's last day", with_word(sample, first_pass + 3, 54197)),
+    )
+
+
+def said_of_mistakes(sample):
+    """What `tracks` says on standard error of each."""
+    items = ["- %s: `%s`" % (what, said(file, printed(file)).decode().splitlines()[0]) for what, file in damaged(sample)]
+    return "".join(textwrap.fill(item, 118, subsequent_indent="  ", break_on_hyphens=False) + "\n" for item in items)
+
+
+PARTS = {
+    "sample-run": sample_run,
+    "sample-explained": sample_explained,
+    "worked-place": worked_place,
+    "said-of-mistakes": said_of_mistakes,
+}
 
 
 def marks(page):

@@ -1,4 +1,4 @@
--- `program::explain::explain_pass` says of each number what it means: of a pass of an accepted file no number is left but 5 and 6.
+-- `explain::explain_pass` says of each number what it means: of a pass of an accepted file no number is left but 5 and 6.
 use mathlib.Core.Path.{sym, ap, _∙_}
 use native.Mathlib.Omega.{arith}
 use lib.IntN.{pos}

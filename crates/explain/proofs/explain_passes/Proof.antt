@@ -1,4 +1,4 @@
--- `program::explain::explain_passes` hands each number on with its pass.
+-- `explain::explain_passes` hands each number on with its pass.
 use borrow.Author.Needs.{needs}
 use mathlib.Core.Path.{_∙_}
 use Prim.Native.Nat.{_-_, _≤_}

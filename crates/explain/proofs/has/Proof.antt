@@ -1,4 +1,4 @@
--- `program::explain::has` meets what its two calls ask: the file is accepted.
+-- `explain::has` meets what its two calls ask: the file is accepted.
 use Rattle.lines.proofs.Passes.{accepted}
 use borrow.Author.Needs.{needs}
 use Rattle.explain.proofs.has.Statement.{statement}

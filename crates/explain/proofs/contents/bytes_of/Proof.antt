@@ -1,4 +1,4 @@
--- `program::contents::bytes_of` works out a number of bytes that no number of the file makes wrap.
+-- `explain::contents::bytes_of` works out a number of bytes that no number of the file makes wrap.
 use borrow.Author.Needs.{needs}
 use Prim.Native.Nat.{_*_, _≤_}
 use native.Mathlib.Omega.{arith}

@@ -1,4 +1,4 @@
--- `program::contents::say_kinds` looks at each kind in turn.
+-- `explain::contents::say_kinds` looks at each kind in turn.
 use borrow.Author.Needs.{needs}
 use Prim.Native.Nat.{_-_, _≤_}
 use Rattle.explain.proofs.contents.say_kinds.Statement.{statement}

@@ -1,4 +1,4 @@
--- `program::contents::starts_as_text` reads no byte that the file does not have.
+-- `explain::contents::starts_as_text` reads no byte that the file does not have.
 use borrow.Author.Needs.{needs}
 use Prim.Native.Nat.{_-_, _≤_}
 use Rattle.explain.proofs.contents.starts_as_text.Statement.{statement}

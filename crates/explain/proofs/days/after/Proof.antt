@@ -1,4 +1,4 @@
--- `program::days::after` stays far below the greatest number.
+-- `explain::days::after` stays far below the greatest number.
 use borrow.Author.Needs.{needs}
 use lib.IntN.{pos}
 use Rattle.whole.proofs.Machine.{lit, var, _⊞_, ok}

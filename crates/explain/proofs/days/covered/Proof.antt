@@ -1,4 +1,4 @@
--- `program::days::covered` meets its contract.
+-- `explain::days::covered` meets its contract.
 use mathlib.Core.Path.{_≡_, ap, _∙_}
 use borrow.Author.Needs.{needs}
 use lib.IntN.{ℤ}

@@ -1,4 +1,4 @@
--- `program::days::explain_days` names a sample that is there: the first whose epoch the file does not cover.
+-- `explain::days::explain_days` names a sample that is there: the first whose epoch the file does not cover.
 use borrow.Author.Needs.{needs}
 use mathlib.Core.Path.{_≡_, sym, ap, _∙_}
 use Prim.Native.Nat.{ℕ, _≤_, _<_}

@@ -1,4 +1,4 @@
--- `program::days::first_uncovered` asks of each sample in turn.
+-- `explain::days::first_uncovered` asks of each sample in turn.
 use borrow.Author.Needs.{needs}
 use mathlib.Core.Path.{_≡_, sym, _∙_}
 use Prim.Native.Nat.{ℕ, _-_, _≤_, _<_}
