@@ -58,7 +58,7 @@
  *     aberration, annual                 1/10,000 of the light time: 300 ns for 1,000 km, 2 microseconds for 6,400 km,
  *                                        unless the place that you give for the source has it already
  *     aberration, diurnal                1.5 millionths of the light time: 5 ns for 1,000 km
- *     motion of the place of date        up to 0.13" a day, since the file has one place for all of its days: 2 ns for
+ *     motion of the place of date        up to 0.16" a day, since the file has one place for all of its days: 3 ns for
  *                                        1,000 km and a day
  *     gravity                            of the Sun 0.4 ns at right angles to it and 170 ns at its edge, both for
  *                                        6,000 km; of the Earth 0.02 ns
