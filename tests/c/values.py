@@ -1,7 +1,6 @@
 """The inputs of the C tests and what the reference answers to each, as tables in a header for C: tests/c/values.h.
 
-`tests/remake` writes it, and `cd tests && python3 -m c.values` it alone. A row is one test: its name, the input of a
-call, and what is wanted.
+`tests/remake` writes it. A row is one test: its name, the input of a call, and what is wanted.
 """
 
 import os
@@ -28,8 +27,3 @@ def files():
     """Every file that is made: its path and its bytes."""
     yield (os.path.join(os.path.dirname(os.path.abspath(__file__)), "values.h"), text().encode())
 
-
-if __name__ == "__main__":
-    for path, wanted in files():
-        with open(path, "wb") as file:
-            file.write(wanted)

@@ -6,9 +6,9 @@ They are a part of what the reference prints for each topic, with the digest of 
 
 import glob
 import hashlib
-import importlib
 import os
 
+import c.values
 import inputs.program
 import inputs.sample
 import programs
@@ -20,7 +20,6 @@ from lines import text
 from . import pages
 
 SHOWN = 120
-C_VALUES = os.path.join(rattle.ROOT, "tests", "c", "values.py")
 
 
 def place(*parts):
@@ -54,18 +53,13 @@ def crate_files():
     yield (place("crates", "tracks", "stdout"), inputs.program.printed(inputs.program.short()))
 
 
-def c_headers():
-    """What the module of the C tests makes, where there is one."""
-    return importlib.import_module("c.values").files() if os.path.exists(C_VALUES) else []
-
-
 def all_files():
     """Every file that is made: its path and its bytes."""
     sample = inputs.sample.session()
     yield from summaries()
     yield from crate_files()
     yield (place("examples", "session"), sample)
-    yield from c_headers()
+    yield from c.values.files()
     yield from pages.pages(sample)
 
 
