@@ -1,5 +1,6 @@
 """Parts of README.md and docs/*.md that are made: what stands between `<!-- made: NAME -->` and `<!-- end -->`."""
 
+import datetime
 import glob
 import os
 import re
@@ -34,26 +35,33 @@ def utc(ms):
     return "%d:%02d:%02d" % (ms // 3_600_000, ms // 60_000 % 60, ms // 1_000 % 60)
 
 
+def date(mjd):
+    return (datetime.date(1858, 11, 17) + datetime.timedelta(mjd)).isoformat()
+
+
 def sample_explained(sample):
     """The second segment of the first pass, number by number."""
     lists, names = session.sections_of(sample), inputs.sample.module().NAMES
-    one, two, source, day, ms, step, _, tolerance = lists[delay.PASSES][0]
-    samples = delay.samples_of(lists, lists[delay.PASSES][0])[1]
+    one, two, source, day, ms, step, _, tolerance = planned = lists[delay.PASSES][0]
+    samples = delay.samples_of(lists, planned)[1]
     segments = track.track_of(samples, tolerance)
     first, count, offset, rate = segments[1]
-    words = (
-        "Pass 0 has %d segments. Line 3 is its second segment: it starts at sample %d and covers %d samples. The pass is of "
-        "%s (station 1) and %s (station 2) with source %s; it starts at %s UTC of MJD %d, with a sample each %s ms, so sample "
-        "%d is at %s. There the offset, %d / 65,536, says a delay of %s ps: the wave reaches %s %.2f ms after %s. The rate, "
-        "%d / 65,536, says that each further sample adds %s ps. So at sample %d, %d samples on, the track has "
-        "(%d + %d · %d) / 65,536 = %s ps; the model has %s ps, within the tolerance of %s ps."
-    ) % (
-        len(segments), first, count, names[one], names[two], names[source], utc(ms), day, grouped(step), first,
-        utc(ms + first * step), offset, grouped(R(offset, UNIT)), names[two], offset / UNIT / 10**9, names[one], rate,
-        grouped(R(rate, UNIT)), first + 6, 6, offset, 6, rate, grouped(R(offset + 6 * rate, UNIT)), grouped(samples[first + 6]),
-        grouped(tolerance),
+    later = 6
+    sentences = (
+        "Pass 0 has %d segments." % len(segments),
+        "Line 3 is its second segment: it starts at sample %d and covers %d samples." % (first, count),
+        "The pass is of %s (station 1) and %s (station 2)" % (names[one], names[two]),
+        "with source %s; it starts at %s UTC of %s" % (names[source], utc(ms), date(day)),
+        "(MJD %d, the modified Julian day), with a sample each %s ms," % (day, grouped(step)),
+        "so sample %d is at %s." % (first, utc(ms + first * step)),
+        "There the offset, %d / 65,536, says a delay of %s ps:" % (offset, grouped(R(offset, UNIT))),
+        "the wave reaches %s %.2f ms after %s." % (names[two], offset / UNIT / 10**9, names[one]),
+        "The rate, %d / 65,536, says that each further sample adds %s ps." % (rate, grouped(R(rate, UNIT))),
+        "So at sample %d, %d samples on, the track has" % (first + later, later),
+        "(%d + %d · %d) / 65,536 = %s ps;" % (offset, later, rate, grouped(R(offset + later * rate, UNIT))),
+        "the model has %s ps, within the tolerance of %s ps." % (grouped(samples[first + later]), grouped(tolerance)),
     )
-    return "\n".join(textwrap.wrap(words, 118)) + "\n"
+    return textwrap.fill(" ".join(sentences), 118) + "\n"
 
 
 def grouped(number):
@@ -72,14 +80,14 @@ def worked_place(sample):
 
 def damaged(sample):
     """The sample session with one mistake each: what was done to it, and its bytes."""
-    first_pass = session.word(sample, 88) // 8
+    first_pass, second_day = session.word(sample, 88) // 8, session.word(sample, 64) // 8 + 5
     return (
         ("a station counted that is not there", with_word(sample, 3, 4)),
         ("the last number cut off", sample[:-8]),
         ("text", b"Onsala 3370606 711918 5349831\nWettzell 4075540 931735 4801629\n"),
         ("X of the first station a millimetre too large", with_word(sample, 14, 6_400_000_001)),
         ("the second station given the id of the first", with_word(sample, 17, 7213)),
-        ("the second day left out and the third in its place", with_word(sample, session.word(sample, 64) // 8 + 5, 54197)),
+        ("the second day left out and the third in its place", with_word(sample, second_day, 54197)),
         ("a pass that names no station of the file", with_word(sample, first_pass, 7214)),
         ("a pass on the file's last day", with_word(sample, first_pass + 3, 54197)),
     )
@@ -87,8 +95,9 @@ def damaged(sample):
 
 def said_of_mistakes(sample):
     """What `tracks` says on standard error of each."""
-    items = ["- %s: `%s`" % (what, said(file, printed(file)).decode().splitlines()[0]) for what, file in damaged(sample)]
-    return "".join(textwrap.fill(item, 118, subsequent_indent="  ", break_on_hyphens=False) + "\n" for item in items)
+    made = ((what, said(file, printed(file)).decode().splitlines()[0]) for what, file in damaged(sample))
+    folded = (textwrap.fill("- %s: `%s`" % pair, 118, subsequent_indent="  ", break_on_hyphens=False) for pair in made)
+    return "".join(item + "\n" for item in folded)
 
 
 PARTS = {
