@@ -69,7 +69,7 @@ def passes_refused_and_not():
 
 
 def one_station_twice():
-    """Document 01's file of 304 bytes: one station, one source, two days and one pass of that station with itself."""
+    """The file of 304 bytes of document 01: a pass in which a station is named twice."""
     return session.encode(([WETTZELL], SOURCES[:1], THREE_DAYS[:2], [(10, 10, 1, 60_000, 0, 1_000, 3, 0)]))
 
 
