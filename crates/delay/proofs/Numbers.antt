@@ -2,17 +2,20 @@
 use mathlib.Core.Path.{_≡_, refl, _∙_}
 use mathlib.Core.Bool.{Bool, true, false}
 use mathlib.Core.List.{List, [], _∷_}
-use Prim.Native.Nat.{ℕ, zero, suc, _≤_}
+use Prim.Native.Nat.{ℕ, zero, suc, _≤_, _<_}
 use native.Mathlib.Omega.{arith}
+use borrow.Author.Tests.{lt-ltb, leb-true}
 use lib.Dec.{leb, ltb}
 use lib.IntN.{ℤ}
 use Rattle.whole.specs.Refusals.{unless, lowerOf, firstOf}
 use Rattle.whole.proofs.Refusals.{end, test, up-to, in-order, joined, lower-most}
+use Rattle.fields.specs.declared.Pass.{Pass}
 use Rattle.sections.proofs.Shapes.{today}
 use Rattle.sections.specs.File.{refusalOf, countOf}
 use Rattle.sections.proofs.Accepted.{refusal-most}
 use Rattle.session.specs.Records.{passOf}
 use Rattle.delay.specs.Calls.{epochOk, orientationNumber, askedOk, allThere, delayNumber, allCovered, samplesOf, samplesNumber}
+use Rattle.delay.specs.Keeping.{placesOf, placesThere, lacksOf}
 use Rattle.delay.specs.Sessions.{covers}
 
 -- the file's number, and 2 for arguments that are out of their ranges
@@ -62,6 +65,23 @@ module _ (s : List ℕ) (i : ℕ) where
       in-order
       (up-to (refusalOf s) 4 (refusal-most today s)
       (test 4 5 indexOk (omega arith) (test 5 5 namesOk (omega arith) (test 5 6 daysOk (omega arith) (test 6 7 (roomOk n) (omega arith) end)))))
+
+  -- of a pass that is there, in a file that is accepted, the number is what the file lacks for it
+  pub lacks-number : (n : ℕ) → refusalOf s ≡ 0 → i < countOf s 3 → samplesNumber s i n ≡ lacksOf s (passOf s i) n
+  lacks-number n h l = samples-first n ∙ rw (h, lt-ltb i (countOf s 3) l)
+
+-- nothing is lacking exactly where no test fails
+each-holds : (a b c : Bool) → firstOf (unless a 5 ∷ unless b 6 ∷ unless c 7 ∷ []) ≡ 0 → (a ≡ true) × (b ≡ true) × (c ≡ true)
+each-holds true true true e = (refl, refl, refl)
+each-holds true true false e = absurd (omega arith)
+each-holds true false c e = absurd (omega arith)
+each-holds false b c e = absurd (omega arith)
+
+pub none-lacking : (s : List ℕ) (p : Pass) (n : ℕ) → lacksOf s p n ≡ 0
+    → (placesThere s (placesOf s p) ≡ true) × (allCovered s p ≡ true) × (samplesOf p ≤ n)
+none-lacking s p n e =
+    let h = each-holds (placesThere s (placesOf s p)) (allCovered s p) (leb (samplesOf p) n) e in
+    (h .0, h .1, leb-true (samplesOf p) n (h .2))
 
 -- where 6 is given, the days are what failed
 pub six-fails : (f : ℕ) (i t c r : Bool) → f ≤ 4 → firstOf (f ∷ unless i 5 ∷ unless t 5 ∷ unless c 6 ∷ unless r 7 ∷ []) ≡ 6 → c ≡ false

@@ -1,10 +1,13 @@
 -- What the code looks up, and keeps from one sample to the next: where records stand, those of a day and the next, and the tide of a minute of TT.
 use mathlib.Core.Path.{_≡_}
 use mathlib.Core.Bool.{Bool, _&&_}
-use mathlib.Core.List.{List, [], _∷_}
+use mathlib.Core.List.{List, [], _∷_, _++_}
 use Prim.Native.Nat.{ℕ}
 use lib.Dec.{leb, ltb}
 use lib.IntN.{ℤ, pos, _+ℤ_}
+use lib.ListN.{drop}
+use Rattle.whole.specs.Answers.{given}
+use Rattle.whole.specs.Values.{firstValues}
 use Rattle.whole.specs.Refusals.{unless, firstOf}
 use Rattle.fields.specs.declared.Pass.{Pass}
 use Rattle.earth.specs.declared.time.Epoch.{Epoch}
@@ -15,7 +18,7 @@ use Rattle.wave.specs.Keeping.{TrueMinute, sightOf, delaySeen}
 use Rattle.delay.specs.declared.keep.Kept.{Kept}
 use Rattle.delay.specs.declared.records.Days.{Days}
 use Rattle.delay.specs.declared.records.Places.{Places}
-use Rattle.delay.specs.Calls.{samplesOf, allCovered}
+use Rattle.delay.specs.Calls.{samplesOf, allCovered, sampleIn}
 use Rattle.delay.specs.Sessions.{earthIn}
 
 -- where the records of two stations and of a source stand, and whether they are there
@@ -28,6 +31,16 @@ placesThere s n = ltb (n .first) (countOf s 0) && (ltb (n .second) (countOf s 0)
 -- what the file lacks for a pass that names them, and for which there is this room
 abbrev pub lacksBy : List ℕ → Pass → Places → ℕ → ℕ
 lacksBy s p n room = firstOf (unless (placesThere s n) 5 ∷ unless (allCovered s p) 6 ∷ unless (leb (samplesOf p) room) 7 ∷ [])
+
+-- the places that a pass names; what the file lacks for it; and the room after its samples were asked for, which are written where nothing is lacking
+abbrev pub placesOf : List ℕ → Pass → Places
+placesOf s p = placesBy s (p .station1) (p .station2) (p .source)
+
+abbrev pub lacksOf : List ℕ → Pass → ℕ → ℕ
+lacksOf s p room = lacksBy s p (placesOf s p) room
+
+abbrev pub roomBy : List ℕ → Pass → List ℤ → ℕ → List ℤ
+roomBy s p room n = given n (firstValues (samplesOf p) (sampleIn s p) ++ drop (samplesOf p) room) (λ (m : ℕ). room)
 
 -- the sight from the two stations to the source
 abbrev pub sightIn : List ℕ → Places → Sight

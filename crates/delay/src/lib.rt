@@ -2,32 +2,33 @@
 mod keep;
 mod pass;
 mod records;
+mod refused;
 
 use earth::Epoch;
 use fields::ranges::ID;
 use fields::ranges::MILLISECOND;
 use fields::ranges::MJD;
 use fields::ranges::inside;
-use pass::lacks;
+pub use pass::pass_lacks;
+pub use pass::pass_samples;
 pub use pass::sample_epoch;
-use pass::write_samples;
 use records::all_there;
 use records::both;
 pub use records::covers;
 use records::earth_in;
 use records::named_by;
 use records::sight_in;
+use refused::no_earth;
+pub use refused::no_number;
 use sections::refusal::count_of;
 use sections::refusal::refusal_of;
 use session::records::pass_of;
 use wave::delay_seen;
 use whole::Number;
-use whole::sign::number;
 ghost use mathlib.Core.Path.{_≡_};
-ghost use Prim.Native.Nat.{_≤_, _<_};
-ghost use Rattle.whole.specs.Answers.{noNumber};
+ghost use Prim.Native.Nat.{_≤_};
 ghost use Rattle.whole.specs.Refusals.{lowerOf, unless};
-ghost use Rattle.delay.specs.Calls.{askedOk, epochOk, noEarth};
+ghost use Rattle.delay.specs.Calls.{askedOk, epochOk};
 ghost use Rattle.delay.specs.Promises.{OrientationPromise, DelayPromise, SamplesPromise};
 
 // As used at an epoch: the pole, UT1-UTC with the tide, and ERA.
@@ -52,29 +53,6 @@ fn judged(file: usize, ok: bool) -> usize
         return 1;
     }
     2
-}
-
-fn no_earth(n: usize) -> EarthAnswer
-    requires { ⌜ n < 65536 ⌝ }
-    ensures { λ r. ⌜ r ≡ noEarth n ⌝ }
-{
-    EarthAnswer {
-        refusal: number(n),
-        x: 0,
-        y: 0,
-        ut1_used: 0,
-        tick: 0,
-    }
-}
-
-fn no_number(n: usize) -> Number
-    requires { ⌜ n < 65536 ⌝ }
-    ensures { λ r. ⌜ r ≡ noNumber n ⌝ }
-{
-    Number {
-        refusal: number(n),
-        value: 0,
-    }
 }
 
 fn epoch_ok(day: i64, ms: i64) -> bool
@@ -149,12 +127,10 @@ pub fn samples(file: &[u8], pass: usize, room: &mut [i64]) -> Number
         return no_number(5);
     }
     let p = pass_of(file, pass);
-    let names = named_by(file, p.station1, p.station2, p.source);
-    let lacking = lacks(file, p, names, room.len());
+    let lacking = pass_samples(file, p, room);
     if lacking != 0 {
         return no_number(lacking);
     }
-    write_samples(file, p, sight_in(file, names), room);
     Number {
         refusal: 0,
         value: p.samples,

@@ -5,6 +5,8 @@ use crate::records::Places;
 use crate::records::all_there;
 use crate::records::both;
 use crate::records::covers;
+use crate::records::named_by;
+use crate::records::sight_in;
 use earth::Epoch;
 use fields::Pass;
 use wave::Sight;
@@ -18,7 +20,7 @@ ghost use Rattle.sections.specs.File.{refusalOf};
 ghost use Rattle.wave.specs.Bounds.{InSight};
 ghost use Rattle.whole.specs.Values.{firstValues};
 ghost use Rattle.delay.specs.Calls.{allCovered, samplesOf};
-ghost use Rattle.delay.specs.Keeping.{delayAt, lacksBy};
+ghost use Rattle.delay.specs.Keeping.{delayAt, lacksBy, placesOf, lacksOf, roomBy};
 ghost use Rattle.delay.specs.Sessions.{covers, sampleEpoch};
 
 // The epoch of sample i.
@@ -77,4 +79,35 @@ pub fn write_samples(s: &[u8], p: Pass, v: Sight, room: &mut [i64])
         kept = r.kept;
         i += 1;
     }
+}
+
+// Where the records that a pass names stand.
+fn named_in(s: &[u8], p: Pass) -> Places
+    requires { ⌜ refusalOf (now s) ≡ 0 ⌝ }
+    ensures { λ r. ⌜ r ≡ placesOf (now (s .entry)) p ⌝ }
+{
+    named_by(s, p.station1, p.station2, p.source)
+}
+
+// What an accepted file lacks for a pass, with room for so many samples: 5, 6, or 7; or 0.
+pub fn pass_lacks(s: &[u8], p: Pass, room: usize) -> usize
+    requires { ⌜ (refusalOf (now s) ≡ 0) × InPass p ⌝ }
+    ensures { λ r. ⌜ (r ≡ lacksOf (now (s .entry)) p room) × (r ≤ 7) ⌝ }
+{
+    let names = named_in(s, p);
+    lacks(s, p, names, room)
+}
+
+// Writes the samples of a pass from the start of the room, unless the accepted file lacks something for them. Answers what it lacks, 0 for nothing.
+pub fn pass_samples(s: &[u8], p: Pass, room: &mut [i64]) -> usize
+    requires { ⌜ (refusalOf (now s) ≡ 0) × InPass p ⌝ }
+    ensures { λ r. ⌜ (r ≡ lacksOf (now (s .entry)) p (length (now (room .entry)))) × (r ≤ 7) × (now (room .exit) ≡ roomBy (now (s .entry)) p (now (room .entry)) r) ⌝ }
+{
+    let names = named_in(s, p);
+    let lacking = lacks(s, p, names, room.len());
+    if lacking != 0 {
+        return lacking;
+    }
+    write_samples(s, p, sight_in(s, names), room);
+    0
 }
