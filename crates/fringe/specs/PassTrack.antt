@@ -12,7 +12,11 @@ use Rattle.track.specs.Answer.{Outcome, outcome, refused}
 unfoldable pub passSamples : List ℕ → ℕ → List ℤ
 passSamples s i = firstValues (samplesOf (passOf s i)) (sampleIn s (passOf s i))
 
--- the refusal of its samples, for which there is room for 4,096, or else what `track` answers for them, with the room after the call
+-- the refusal of its samples, for which there is room for 4,096
+abbrev pub passNumber : List ℕ → ℕ → ℕ
+passNumber s i = samplesNumber s i 4096
+
+-- that refusal, or else what `track` answers for the samples, with the room after the call
 unfoldable pub passOutcome : List ℕ → ℕ → List ℤ → Outcome
 passOutcome s i room =
-    given (samplesNumber s i 4096) (outcome (passSamples s i) (passOf s i .tolerance) room) (λ n. refused n room)
+    given (passNumber s i) (outcome (passSamples s i) (passOf s i .tolerance) room) (λ n. refused n room)

@@ -2,35 +2,24 @@
 use mathlib.Core.Path.{_≡_, refl, sym, ap, _∙_}
 use mathlib.Core.Bool.{Bool, true, false, cond}
 use mathlib.Core.List.{List, [], _∷_}
-use Prim.Native.Nat.{ℕ, zero, suc, _*_, _/_, _≤_, _<_}
+use Prim.Native.Nat.{ℕ, zero, suc, _*_, _≤_, _<_}
 use native.Mathlib.Omega.{arith}
 use borrow.Author.Tests.{le-leb, lt-ltb}
-use lib.Dec.{leb, eqb·suc-zero}
 use lib.IntN.{ℤ, pos}
-use lib.ListN.{length, getD, replicate, length-replicate}
+use lib.ListN.{replicate, length-replicate}
 use lib.Signed.{leZ}
 use Rattle.whole.specs.Whole.{∣_∣}
-use Rattle.whole.specs.Answers.{given}
-use Rattle.whole.proofs.Each.{below-all}
 use Rattle.whole.proofs.Linear.{no-tf}
-use Rattle.whole.specs.Values.{firstValues}
-use Rattle.whole.proofs.Values.{values-long, value-at}
-use Rattle.fields.specs.Ranges.{tolerance}
-use Rattle.fields.proofs.Inside.{holds-inside}
 use Rattle.sections.specs.File.{refusalOf, countOf}
-use Rattle.sections.specs.Layouts.{places}
 use Rattle.session.specs.declared.Counts.{Counts}
 use Rattle.session.specs.Records.{checkOf, passOf}
 use Rattle.session.proofs.Answers.{check-accepted, check-number}
-use Rattle.session.proofs.Fields.{place-most}
 use Rattle.session.proofs.Laws.{pass-in}
 use Rattle.whole.specs.Refusals.{lowest, unless}
-use Rattle.delay.specs.Calls.{samplesOf, sampleIn, samplesNumber, allThere, allCovered}
+use Rattle.delay.specs.Calls.{samplesOf, samplesNumber, allThere, allCovered}
 use Rattle.delay.proofs.Epochs.{samples-count}
-use Rattle.delay.proofs.Theorems.{sample-bounded}
-use Rattle.track.specs.Answer.{Outcome, inRange, outcome, refused}
-use Rattle.track.proofs.Answers.{always-enough}
-use Rattle.fringe.specs.PassTrack.{passSamples, passOutcome}
+use Rattle.fringe.proofs.Passes.{lent-number}
+use Rattle.fringe.proofs.Sharing.{few-passes}
 use Rattle.lines.specs.Text.{lentOutcome}
 
 -- ---- a number by the tests that are left
@@ -46,16 +35,7 @@ neither n true true e f g = absurd (f e)
 neither n true false e f g = e
 neither n false c e f g = absurd (g e)
 
-by-number : (n : ℕ) (o : Outcome) (room : List ℤ) → (n ≡ 0 → o .answer .refusal ≡ pos 0) → given n o (λ m. refused m room) .answer .refusal ≡ pos n
-unfolding given
-by-number zero o room f = f refl
-by-number (suc n) o room f = rw (eqb·suc-zero n)
-
 module _ (s : List ℕ) (h : refusalOf s ≡ 0) where
-  few-passes : countOf s 3 ≤ 64
-  unfolding places
-  few-passes = place-most s h 3 (omega arith) 64 refl
-
   module _ (i : ℕ) (l : i < countOf s 3) where
     pub number-by : samplesNumber s i 4096 ≡ cond (allThere s (passOf s i .station1) (passOf s i .station2) (passOf s i .source)) (cond (allCovered s (passOf s i)) 0 6) 5
     unfolding samplesNumber
@@ -64,26 +44,9 @@ module _ (s : List ℕ) (h : refusalOf s ≡ 0) where
         let m = samples-count p (pass-in s h i l) .1 in
         rw (h, lt-ltb i (countOf s 3) l, le-leb (samplesOf p) 4096 m) (by-tests (allThere s (p .station1) (p .station2) (p .source)) (allCovered s p))
 
-    -- the samples that are given are such as `track` takes
-    taken : samplesNumber s i 4096 ≡ 0 → inRange (passSamples s i) (passOf s i .tolerance) ≡ true
-    unfolding inRange passSamples
-    taken e =
-        let p = passOf s i in
-        let k = samplesOf p in
-        let f = sampleIn s p in
-        let c = samples-count p (pass-in s h i l) in
-        let t = holds-inside tolerance (p .tolerance) (pass-in s h i l .tolerance) in
-        let small : (j : ℕ) → j < k → leb ∣ getD (firstValues k f) j (pos 0) ∣ 130000000000 ≡ true = λ j m. rw (value-at k j f m) (le-leb ∣ f j ∣ 130000000000 (sample-bounded s i 4096 j e m)) in
-        rw (values-long k f, le-leb 1 k (c .0), le-leb k 4096 (c .1), t) (below-all k _ small)
-
     -- the pass has the number of its samples: 2,048 segments are always enough
     pub pass-number : lentOutcome s i .answer .refusal ≡ pos (samplesNumber s i 4096)
-    unfolding passOutcome
-    pass-number =
-        let room = replicate (4 * 2048) (pos 0) in
-        let d : 2048 ≤ length room / 4 = omega (arith, length-replicate (4 * 2048) (pos 0)) in
-        by-number (samplesNumber s i 4096) (outcome (passSamples s i) (passOf s i .tolerance) room) room
-        (λ (e : samplesNumber s i 4096 ≡ 0). ap (λ (o : Outcome). o .answer .refusal) (always-enough (passSamples s i) (passOf s i .tolerance) room (taken e) d))
+    pass-number = lent-number s h i l (replicate (4 * 2048) (pos 0)) (omega (arith, length-replicate (4 * 2048) (pos 0)))
 
     neither-six : (lentOutcome s i .answer .refusal ≡ pos 0 → ⊥) → (lentOutcome s i .answer .refusal ≡ pos 5 → ⊥) → lentOutcome s i .answer .refusal ≡ pos 6
     neither-six f g =

@@ -3,7 +3,7 @@ use mathlib.Core.Path.{_≡_, refl, sym, ap, _∙_}
 use mathlib.Core.Bool.{Bool, true, false}
 use mathlib.Core.List.{List, [], _∷_}
 use mathlib.Core.Logic.{_↔_, ⊎-elim}
-use Prim.Native.Nat.{ℕ, _/_, _≤_, _<_}
+use Prim.Native.Nat.{ℕ, _+_, _*_, _/_, _≤_, _<_}
 use native.Mathlib.Omega.{arith}
 use borrow.Author.Tests.{lt-leb, le-leb}
 use lib.Dec.{leb}
@@ -26,6 +26,10 @@ use Rattle.track.proofs.Theorems.{trackOf-track, trackOf-fewest, trackO
 pub one-result : (s : List ℤ) (t : ℤ) (room : List ℤ) (x y : Number) (after other : List ℤ) → TrackPromise s t room x after → TrackPromise s t room y other
     → (x ≡ y) × (after ≡ other)
 one-result s t room x y after other p q = let e = p ∙ sym q in (ap (λ (o : Outcome). o .answer) e, ap (λ (o : Outcome). o .room) e)
+
+-- a track has at most half as many segments as there are samples, rounded up
+pub half-most : (s : List ℤ) (t : ℤ) → inRange s t ≡ true → 2 * length (trackOf s (posPart t)) ≤ length s + 1
+half-most s t h = trackOf-half s (posPart t) (ranged s t h .small) (ranged s t h .tol)
 
 module _ (s : List ℤ) (t : ℤ) (room : List ℤ) where
   -- the numbers stand in their order, so the lowest is the first
@@ -60,7 +64,7 @@ module _ (s : List ℤ) (t : ℤ) (room : List ℤ) where
 
     -- room for 2,048 segments is always enough
     pub always-enough : 2048 ≤ length room / 4 → outcome s t room ≡ written (trackOf s (posPart t)) room
-    always-enough k = answer-0 (omega (arith, trackOf-half s (posPart t) (ranged s t h .small) (ranged s t h .tol), ranged s t h .few))
+    always-enough k = answer-0 (omega (arith, half-most s t h, ranged s t h .few))
 
   -- what holds of every refusal, and of the track where it fits the room, holds of the outcome
   pub each-way : (P : Outcome → Type 0) → ((n : ℕ) → P (refused n room)) → (length (trackOf s (posPart t)) ≤ length room / 4 → P (written (trackOf s (posPart t)) room)) → P (outcome s t room)
