@@ -1,11 +1,14 @@
-"""Laws of document 01 and of the order's demands, held to the reference over seeded numbers."""
+"""Laws of documents 01 and 02 and of the order's demands, held to the reference over seeded numbers."""
 
 import random
 from fractions import Fraction
+from itertools import islice
 
+from inputs.sharing import most_segments
+from inputs.sound import some_session
 from tally import alone
 
-from . import delay, earth, track
+from . import delay, earth, session, together, track
 from .sine import ONE, TURN, S, sine
 from .whole import R
 
@@ -181,6 +184,50 @@ def own_tracks_are_well_formed(tally, random):
         tally.nothing_wrong("own track, samples within %d, tolerance %d:" % (size, tolerance), wrong)
 
 
+def one_by_one(file, room):
+    """The two calls of document 01 for pass after pass, each in what is left of the room: number, counts, room afterwards."""
+    counts, at, after = [], 0, list(room)
+    for index, planned in enumerate(session.sections_of(file)[delay.PASSES]):
+        number, taken, samples = delay.samples(file, index, [0] * track.MOST_SAMPLES)
+        if number == 0:
+            number, count, part = track.track(samples[:taken], planned[7], after[at:])
+        if number:
+            return (number, [0] * 64, room)
+        after[at:], at = part, at + 4 * count
+        counts.append(count)
+    return (0, counts + [0] * (64 - len(counts)), after)
+
+
+def covered(counts, room):
+    """How many samples the segments cover that are counted for each pass."""
+    segments = iter(track.segments_of(room))
+    return [sum(segment[1] for segment in islice(segments, count)) for count in counts]
+
+
+def wrong_together(file, room):
+    """Document 02, L2: as one by one, nothing but the counted segments written, and no answer but 8 moved by more room."""
+    number, counts, after = answer = together.all_tracks(file, room)
+    passes = session.sections_of(file)[delay.PASSES]
+    samples, written = [planned[6] for planned in passes], 4 * sum(counts)
+    more, more_counts, longer = together.all_tracks(file, room + room)
+    yield "" if answer == one_by_one(file, room) else "it is not what the single calls answer"
+    yield "" if after[written:] == room[written:] else "behind the segments the room is touched"
+    yield "" if number or covered(counts, after) == samples + [0] * (64 - len(samples)) else "a pass is not covered"
+    yield "" if number == 0 or (counts, after) == ([0] * 64, room) else "refused, it left other counts or another room"
+    yield "" if number == 8 or (more, more_counts, longer[:len(room)]) == answer else "more room moves it"
+    yield "it is 8 in ample room" if number == 8 and most_segments(*passes) <= len(room) // 4 else ""
+
+
+def passes_together(tally, random):
+    """A session in a room is one test."""
+    for i in range(100):
+        lists = some_session(random)
+        ample = 4 * most_segments(*lists[delay.PASSES])
+        for numbers in (ample, random.randint(0, ample)):
+            wrong = wrong_together(session.encode(lists), [-7] * numbers)
+            tally.nothing_wrong("all passes of session %d in %d:" % (i, numbers), wrong)
+
+
 def run(tally):
     numbers = random.Random(20_101)
     rounding(tally)
@@ -188,7 +235,7 @@ def run(tally):
     long_tracks(tally)
     for part in (sine_near_its_sum, sine_turned, angle_near_its_fraction):
         part(tally, numbers)
-    for part in (swapped_stations, small_tracks, own_tracks_are_well_formed):
+    for part in (swapped_stations, small_tracks, own_tracks_are_well_formed, passes_together):
         part(tally, numbers)
 
 

@@ -2,7 +2,7 @@
 
 from tally import alone
 
-from . import delay, earth, program, session, track
+from . import delay, earth, program, session, together, track
 from .sine import sine
 
 
@@ -64,6 +64,7 @@ def the_program(tally):
     tally.equal("tracks of nothing", program.lines(b""), ["refused 1"])
     tally.equal("tracks of over-long input", program.lines(file + bytes(65_536)), ["refused 1"])
     tally.equal("samples of the small session", delay.samples(file, 0, [5] * 4), (0, 3, [0, 0, 0, 5]))
+    tally.equal("all tracks of the small session", together.all_tracks(file, [5] * 5), (0, [1] + [0] * 63, [0, 3, 0, 0, 5]))
 
 
 def run(tally):
