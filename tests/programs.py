@@ -11,6 +11,7 @@ import inputs.earth
 import inputs.lending
 import inputs.program
 import inputs.session
+import inputs.together
 import inputs.track
 import inputs.write
 from inputs.questions import lines_of
@@ -22,6 +23,7 @@ TOPICS = {
     "write": inputs.write,
     "delay": inputs.delay,
     "track": inputs.track,
+    "together": inputs.together,
 }
 
 PROGRAMS = ("answers", "tracks")

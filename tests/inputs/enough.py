@@ -1,12 +1,12 @@
 """The inputs hold what the comparisons need: each refusal and each trap so often, and a fault at each place."""
 
 from collections import Counter
-from itertools import product
+from itertools import permutations, product
 
 import programs
 from reference import session
 
-from . import earth, features, short
+from . import earth, features, sharing, short
 
 LEAST = {
     "files": 500,
@@ -24,6 +24,19 @@ LEAST = {
     **{"TAI-UTC %s by %s" % step: 10 for step in product(("rises", "falls"), ("the next day", "99"))},
     "pass on the file's last day": 10,
 }
+
+# Of each of these in the questions on all passes together there are 10.
+TOGETHER = (
+    *("%s answered" % passes for passes in ("one pass", "two passes", "several passes", "64 passes")),
+    *("file refused with %d" % number for number in (1, 2, 3, 4)),
+    *("%s pass refused with %d" % case for case in product(("first", "middle", "last"), (5, 6, 8))),
+    *("%d before %d" % pair for pair in permutations((5, 6, 8), 2)),
+    *("refused with %d in ample room" % number for number in (5, 6)),
+    *("refused with %d in tight room" % number for number in (5, 6, 8)),
+    *("ample from the first pass on", "ample from a later pass on", "never ample"),
+    *("no room", "room for the first pass alone", "a segment short", "a number short", "just enough"),
+    *("just ample", "a number short of ample", "numbers behind the last whole segment"),
+)
 
 
 def too_few(counts, least):
@@ -62,8 +75,14 @@ def questions_of_earth(tally):
     tally.nothing_wrong("enough questions of earth", too_few(counts, least))
 
 
+def passes_together(tally):
+    made = [question for question, _ in programs.questions("together")]
+    counts = Counter(trap for question in made for trap in sharing.traps(question.lent, question.room))
+    tally.nothing_wrong("enough of passes together", too_few(counts, dict.fromkeys(TOGETHER, 10)))
+
+
 def each_kind_of_answer(tally):
-    """Each call is asked with an answer and with each number that document 01 lets it give, and gives no other."""
+    """Each call is asked with an answer and with each number that the documents let it give, and gives no other."""
     counts = Counter(kind for _, kind in short.kinds(programs.all_questions()))
     tally.equal("kinds of answers", sorted(counts), sorted(short.expected_kinds()))
     for name in short.GIVEN:
@@ -75,4 +94,5 @@ def run(tally):
     session_files(tally)
     places_of_faults(tally)
     questions_of_earth(tally)
+    passes_together(tally)
     each_kind_of_answer(tally)

@@ -10,21 +10,21 @@ import sys
 from typing import NamedTuple
 
 from lines import line
-from reference import delay, earth, session, track
+from reference import delay, earth, session, together, track
 from reference.sine import cosine, sine
 
 SINE, COSINE, ARGUMENTS, TIDE, ANGLE, LATER, ROTATE = range(1, 8)
 CHECK, FAULT, STATION, SOURCE, DAY, PASS = range(8, 14)
-ORIENTATION, DELAY, SAMPLES, WRITE, TRACK, PREDICT, HOST = range(14, 21)
+ORIENTATION, DELAY, SAMPLES, WRITE, TRACK, PREDICT, HOST, ALL_TRACKS = range(14, 22)
 
 NAMES = dict(enumerate(
     "sine cosine arguments tide angle_at later rotate check fault station_at source_at day_at pass_at "
-    "orientation delay samples write track predict host_at".split(), 1,
+    "orientation delay samples write track predict host_at all_tracks".split(), 1,
 ))
 
 HEAD_BYTES = 64
 MOST_LENT = 65_600
-MOST_ROOM = {SAMPLES: 8_200, TRACK: 8_200, WRITE: 16_384}
+MOST_ROOM = {SAMPLES: 8_200, TRACK: 8_200, WRITE: 16_384, ALL_TRACKS: 8_200}
 FILLED_NUMBER, FILLED_BYTE = 0x5555_5555_5555_5555, 165
 SAME_AS_BEFORE = -1
 
@@ -107,6 +107,11 @@ def tracked(q):
     return [line((number, count)), line(room)]
 
 
+def all_tracks(q):
+    number, counts, room = together.all_tracks(q.lent, [FILLED_NUMBER] * q.room)
+    return [line((number, *counts)), line(room)]
+
+
 def host(q):
     number, *doubles = track.host_at(numbers_lent(q.lent), index(q.a))
     return [line((number, *map(track.bits, doubles)))]
@@ -133,6 +138,7 @@ CALLS = {
     TRACK: tracked,
     PREDICT: lambda q: [line(track.predict(numbers_lent(q.lent), index(q.a)))],
     HOST: host,
+    ALL_TRACKS: all_tracks,
 }
 
 

@@ -1,9 +1,9 @@
 """The questions of crates/answers/stdin: document 01's, some delays, and of each call one for each number it gives."""
 
-from . import chosen, earth, track
+from . import chosen, earth, together, track
 from .questions import DELAY, NAMES, ORIENTATION, SAMPLES, Question, refusal
 
-# The numbers that document 01 lets each call give, beside an answer.
+# The numbers that documents 01 and 02 let each call give, beside an answer.
 GIVEN = {
     "sine": (), "cosine": (), "rotate": (),
     "arguments": (2,), "tide": (2,), "angle_at": (2,), "later": (2,),
@@ -11,7 +11,7 @@ GIVEN = {
     "station_at": (1, 2, 3, 4, 5), "source_at": (1, 2, 3, 4, 5), "day_at": (1, 2, 3, 4, 5), "pass_at": (1, 2, 3, 4, 5),
     "orientation": (1, 2, 3, 4, 6), "delay": (1, 2, 3, 4, 5, 6), "samples": (1, 2, 3, 4, 5, 6, 7),
     "write": (1, 2, 3, 4, 7),
-    "track": (2, 8), "predict": (9,), "host_at": (9,),
+    "track": (2, 8), "predict": (9,), "host_at": (9,), "all_tracks": (1, 2, 3, 4, 5, 6, 8),
 }
 
 
@@ -49,4 +49,5 @@ def of_two_stations():
 
 
 def short(known):
-    return [*earth.document(), *track.document_questions(), *of_two_stations(), *of_each_kind(known)]
+    of_two_passes = together.in_rooms(together.ROUGH, together.CALM)
+    return [*earth.document(), *track.document_questions(), *of_two_stations(), *of_two_passes, *of_each_kind(known)]

@@ -12,7 +12,7 @@ from inputs.program import printed
 from inputs.questions import lines_of
 from tally import alone
 
-from . import delay, earth, program, session, track, write
+from . import delay, earth, program, session, together, track, write
 
 WRONG = {
     "earth": earth.WRONG,
@@ -20,6 +20,7 @@ WRONG = {
     "write": write.WRONG,
     "delay": delay.WRONG,
     "track": track.WRONG,
+    "together": together.WRONG,
     "tracks": program.WRONG,
 }
 LONGEST_ROOM, LONGEST_TEXT = 2_100, 3_000

@@ -22,6 +22,8 @@ fn answer(head: Head, file: &[u8]) {
         files::answer(head, file);
     } else if what <= 20 {
         lists::answer(head, file);
+    } else if what == 21 {
+        rooms::all_tracks_with_room(file, index(head.room));
     }
 }
 

@@ -3,9 +3,11 @@ ghost use Prim.Native.Nat.{_≤_};
 ghost use lib.ListN.{length};
 use crate::numbers::Head;
 use crate::numbers::index;
+use crate::print::print_bits;
 use crate::print::print_bytes;
 use crate::print::print_number;
 use crate::print::print_numbers;
+use whole::sign::size;
 
 pub(crate) fn samples_with_room(file: &[u8], pass: usize, m: usize) {
     let mut space = [6148914691236517205i64; 8200];
@@ -21,6 +23,20 @@ pub(crate) fn track_with_room(samples: &[i64], tolerance: i64, m: usize) {
     if m <= 8200 {
         let room = &mut space[0..m];
         print_number(track::track(samples, tolerance, room));
+        print_numbers(room);
+    }
+}
+
+fn print_tracks(t: fringe::Tracks) {
+    print_bits(size(t.refusal), b' ');
+    print_numbers(&t.counts);
+}
+
+pub(crate) fn all_tracks_with_room(file: &[u8], m: usize) {
+    let mut space = [6148914691236517205i64; 8200];
+    if m <= 8200 {
+        let room = &mut space[0..m];
+        print_tracks(fringe::all_tracks(file, room));
         print_numbers(room);
     }
 }
