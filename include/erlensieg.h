@@ -12,6 +12,9 @@
  *     struct fringe_host now = fringe_host_at(track, FRINGE_SEGMENT_NUMBERS * (size_t)made.value, 7);
  *                                                                              4. the delay at sample 7, from the track
  *
+ *     struct fringe_tracks all = fringe_all_tracks(file, file_bytes, room, FRINGE_ALL_TRACKS_NUMBERS);
+ *                                                                              or the tracks of all passes, in one call
+ *
  * Look at `refusal` after each call. examples/host.c is such a program, whole.
  *
  * Building
@@ -35,7 +38,8 @@
  * Refusals
  *   Every call answers every input. A struct's `refusal` is 0, or one of the numbers of enum fringe_refusal; then all
  *   of its other fields are 0. Where several apply, the lowest is given. So an argument that is out of range is 2 also
- *   where the file by itself would be 3 or 4, and a file that is 1 goes before it.
+ *   where the file by itself would be 3 or 4, and a file that is 1 goes before it. Among passes the order is another:
+ *   fringe_all_tracks gives the number of the first pass that is refused, also where a later one has a lower number.
  *
  * Units
  *   tick               1/2^32 of a turn, 0 to 2^32 - 1
@@ -123,6 +127,7 @@
 #define FRINGE_MOST_SEGMENT_SAMPLES 1024  /* samples of a segment */
 #define FRINGE_SEGMENT_NUMBERS 4          /* numbers of a segment: first sample, samples, offset, rate */
 #define FRINGE_MOST_TRACK_NUMBERS 8192    /* numbers of FRINGE_MOST_SEGMENTS: a room that is always enough */
+#define FRINGE_ALL_TRACKS_NUMBERS 524288  /* the same for the tracks of FRINGE_MOST_PASSES passes together */
 #define FRINGE_MOST_TOLERANCE 1000000     /* ps */
 #define FRINGE_MOST_DELAY INT64_C(130000000000) /* ps, either side: no delay is beyond, no sample of a track may be */
 
@@ -256,6 +261,12 @@ struct fringe_host {
 	struct fringe_record record;
 };
 
+/* how many segments each pass has, in the file's order; 0 beyond its last pass */
+struct fringe_tracks {
+	int64_t refusal;
+	int64_t counts[FRINGE_MOST_PASSES];
+};
+
 #ifdef __cplusplus
 extern "C" {
 #endif
@@ -354,6 +365,21 @@ struct fringe_number fringe_samples(const uint8_t *file, size_t file_bytes, uint
  */
 struct fringe_number fringe_track(const int64_t *samples, size_t sample_count, int64_t tolerance,
 				  int64_t *room, size_t room_numbers);
+
+/*
+ * The tracks of all passes of the file, in its order, each behind the last: what fringe_samples and fringe_track give
+ * for one pass after the other, each with its own tolerance and with the room that those before it left.
+ * counts[i]: segments of pass i, counted from 0. Its segments start at number 4 (counts[0] + .. + counts[i - 1]) of the
+ * room, those of pass 0 at number 0, and have 4 counts[i] numbers. They are a track by themselves, as fringe_predict
+ * takes it: samples count from 0 in each pass. Behind the last segment the room stays as it was.
+ * A pass of n samples never needs more than (n + 1) / 2 segments, rounded down. So 4 times the sum of that over the
+ * passes is always room enough, and FRINGE_ALL_TRACKS_NUMBERS, 4 MiB, is so for every file. With less room the call may
+ * still be answered, since most tracks have far fewer segments; but it may then take twice as long.
+ * Refusals: 1 to 4 for the file. Then the passes are asked in turn, and the first that is refused decides: 5 and 6 as
+ * fringe_samples gives them, 8 where its track does not fit the room that is left. So pass 0's 8 is given before pass
+ * 1's 5. After a refusal all counts are 0 and all of the room is as it was, also where earlier passes had a track.
+ */
+struct fringe_tracks fringe_all_tracks(const uint8_t *file, size_t file_bytes, int64_t *room, size_t room_numbers);
 
 /*
  * The delay that a track predicts at a sample, counted from 0. track_numbers is 4 times the segments that fringe_track

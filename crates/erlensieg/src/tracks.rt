@@ -1,7 +1,9 @@
 // Tracks, and what they predict.
+use fringe::Tracks;
 use predict::Host;
 use whole::Number;
 ghost use Rattle.track.specs.Promises.{TrackPromise};
+ghost use Rattle.fringe.specs.Promises.{AllTracksPromise};
 ghost use Rattle.predict.specs.Promises.{PredictPromise, HostPromise};
 
 #[no_mangle]
@@ -9,6 +11,13 @@ pub extern "C" fn fringe_track(samples: &[i64], tolerance: i64, room: &mut [i64]
     ensures { λ r. ⌜ TrackPromise (now (samples .entry)) tolerance (now (room .entry)) r (now (room .exit)) ⌝ }
 {
     track::track(samples, tolerance, room)
+}
+
+#[no_mangle]
+pub extern "C" fn fringe_all_tracks(file: &[u8], room: &mut [i64]) -> Tracks
+    ensures { λ r. ⌜ AllTracksPromise (now (file .entry)) (now (room .entry)) r (now (room .exit)) ⌝ }
+{
+    fringe::all_tracks(file, room)
 }
 
 #[no_mangle]
