@@ -5,7 +5,7 @@ A file is the sound one with one number changed.
 
 import struct
 
-from reference import delay, session
+from reference import delay, session, together
 
 LEAST, GREATEST, LAST_INDEX = -(2**63), 2**63 - 1, 2**64 - 1
 
@@ -151,6 +151,30 @@ def sample_table():
     yield ("sample", columns, rows)
 
 
+def sessions():
+    """Name, change, and each room, in numbers. For passes of 5 and of 4 samples 20 numbers are always enough."""
+    yield ("all passes", SAME, (8_200, 20, 19, 11, 8, 7, 4, 3, 0))
+    yield ("all passes, over a leap second", LEAP, (8_200, 16, 15))
+    yield ("a first pass of more segments", (at(4, 0, 7), 0), (8_200, 16, 12))
+    yield ("a second pass of more segments", (at(4, 1, 5), 3_600_000), (8_200, 12, 11))
+    yield ("a first pass whose station is not there", (at(4, 0, 0), 11), (8_200, 0))
+    yield ("a second pass whose source is not there", (at(4, 1, 2), 3), (8_200, 19, 4, 3))
+    yield ("a first pass not covered", (at(4, 0, 3), 60_001), (8_200, 0))
+    yield ("a second pass not covered", (at(4, 1, 3), 60_002), (8_200, 19, 4, 3))
+    yield from (("all passes of a refused file", change, (8_200, 0)) for change in REFUSED)
+
+
+def all_tracks_table():
+    """Of the 64 counts those of the two passes stand in a row; the others C makes 0."""
+    rows = []
+    for what, change, room in ((*each, room) for *each, rooms in sessions() for room in rooms):
+        number, counts, after = together.all_tracks(changed(change), [0] * room)
+        want, segments = (number, *counts[:len(LISTS[3])]), sum(counts)
+        rows.append(("%s, room %d" % (what, room), *change, room, want, segments, after[:4 * segments]))
+    columns = CHANGE + "size_t room_numbers; int64_t want[1 + FRINGE_MOST_PASSES];"
+    yield ("all_tracks", columns + " size_t segments; const int64_t *numbers;", rows)
+
+
 def tables():
-    for made in (file_tables, write_table, orientation_table, delay_table, sample_table):
+    for made in (file_tables, write_table, orientation_table, delay_table, sample_table, all_tracks_table):
         yield from made()

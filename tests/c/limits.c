@@ -97,6 +97,48 @@ static void of_files(void)
 	one(fringe_delay(file, file_bytes, FRINGE_MOST_ID + 1, 1, 1, FRINGE_FIRST_MJD, 0).refusal, FRINGE_OUT_OF_RANGE);
 }
 
+/* the most passes, each of the most samples, no three of them on a line: so each segment has two samples */
+static void fill_passes(void)
+{
+	static const int64_t pass[] = {1, 2, 1, FRINGE_FIRST_MJD, 20000000, 1000, FRINGE_MOST_SAMPLES, 0};
+	fill_lists();
+	lists[0][FRINGE_STATION_NUMBERS + 1] = 6400000000;
+	for (size_t i = 0; i < FRINGE_MOST_PASSES; i++)
+		memcpy(lists[3] + FRINGE_PASS_NUMBERS * i, pass, sizeof pass);
+	write_counts("the most passes", most, sizeof written, FRINGE_ANSWERED, FRINGE_RIGHT_FILE_BYTES);
+}
+
+/* the room for all tracks, with a guard on either side */
+static int64_t all[1 + FRINGE_ALL_TRACKS_NUMBERS + 1];
+
+static void untouched(size_t from, size_t to)
+{
+	for (size_t i = from; i < to; i++)
+		one(all[i], 0x5555555555555555);
+}
+
+static void all_tracked(const char *what, size_t numbers, int64_t refusal, int64_t count)
+{
+	memset(all, 0x55, sizeof all);
+	struct fringe_tracks r = fringe_all_tracks(written, sizeof written, all + 1, numbers);
+	test(what);
+	one(r.refusal, refusal);
+	for (size_t i = 0; i < FRINGE_MOST_PASSES; i++)
+		one(r.counts[i], count);
+}
+
+static void of_sessions(void)
+{
+	fill_passes();
+	all_tracked("the most tracks", FRINGE_ALL_TRACKS_NUMBERS, FRINGE_ANSWERED, FRINGE_MOST_SEGMENTS);
+	untouched(0, 1);
+	for (size_t i = 0; i < FRINGE_ALL_TRACKS_NUMBERS / FRINGE_SEGMENT_NUMBERS; i++)
+		same(all + 1 + FRINGE_SEGMENT_NUMBERS * i, (int64_t[]){2 * (int64_t)(i % FRINGE_MOST_SEGMENTS), 2}, 2);
+	untouched(COUNT(all) - 1, COUNT(all));
+	all_tracked("room for one segment less", FRINGE_ALL_TRACKS_NUMBERS - 1, FRINGE_NO_TRACK_FITS, 0);
+	untouched(0, COUNT(all));
+}
+
 static void epoch(const char *what, int64_t day, int64_t ms, int64_t refusal)
 {
 	test(what);
@@ -107,6 +149,7 @@ void limits(void)
 {
 	of_tracks();
 	of_files();
+	of_sessions();
 	epoch("the first day", FRINGE_FIRST_MJD, 0, FRINGE_ANSWERED);
 	epoch("the day before it", FRINGE_FIRST_MJD - 1, 0, FRINGE_OUT_OF_RANGE);
 	epoch("the last millisecond of the last day", FRINGE_LAST_MJD, FRINGE_LAST_MS, FRINGE_ANSWERED);

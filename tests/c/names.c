@@ -69,6 +69,10 @@ void empties(void)
 	one(fringe_track(none, 0, 0, none, 0).refusal, FRINGE_OUT_OF_RANGE);
 	test("no room for a track");
 	one(fringe_track(sound, 1, 0, none, 0).refusal, FRINGE_NO_TRACK_FITS);
+	test("the tracks of an empty file, and no room");
+	one(fringe_all_tracks(no_file, 0, none, 0).refusal, FRINGE_WRONG_FILE);
+	test("no room for all tracks");
+	one(fringe_all_tracks(file, file_bytes, none, 0).refusal, FRINGE_NO_TRACK_FITS);
 	test("no track to predict");
 	one(fringe_predict(none, 0, 0).refusal, FRINGE_NOT_PREDICTED);
 	test("no track for a record");

@@ -3,13 +3,14 @@
 from c.cells import Name
 from c.filerows import FILE, at, changed
 from reference import words
-from reference import delay, earth, session, track
+from reference import delay, earth, session, together, track
 
 
 def track_limits():
     segments = (track.MOST_SAMPLES + 1) // 2
     yield from (("MOST_SAMPLES", track.MOST_SAMPLES), ("MOST_SEGMENTS", segments), ("MOST_TRACK_NUMBERS", 4 * segments))
     yield from (("MOST_SEGMENT_SAMPLES", track.LONGEST_SEGMENT), ("SEGMENT_NUMBERS", 4))
+    yield ("ALL_TRACKS_NUMBERS", 4 * segments * together.MOST_PASSES)
     yield from (("MOST_TOLERANCE", track.GREATEST_TOLERANCE), ("MOST_DELAY", track.GREATEST_SAMPLE))
 
 

@@ -13,6 +13,19 @@ static void track_one(const struct track_row *row)
 	lent_stays();
 }
 
+/* the tracks of all passes: each count, also beyond the last pass, and what the room holds */
+static void all_one(const struct all_tracks_row *row)
+{
+	lend_file(row->at, row->value, sizeof sound);
+	empty_room();
+	struct fringe_tracks r = fringe_all_tracks(file, file_bytes, room, row->room_numbers);
+	test(row->what);
+	one(r.refusal, row->want[0]);
+	same(r.counts, row->want + 1, FRINGE_MOST_PASSES);
+	holds(row->numbers, FRINGE_SEGMENT_NUMBERS * row->segments);
+	file_stays();
+}
+
 static void predict_one(const struct predict_row *row)
 {
 	lend(row->track, row->track_numbers);
@@ -37,6 +50,8 @@ void tracks(void)
 {
 	for EACH (track, row)
 		track_one(row);
+	for EACH (all_tracks, row)
+		all_one(row);
 	for EACH (predict, row) {
 		predict_one(row);
 		host_one(row);

@@ -53,6 +53,13 @@ static const int64_t numbers_39[5] = {2303329005, 2303377799, 2303426583, 230347
 static const int64_t numbers_40[4] = {-986948791, -986983118, -987017445, -987051772};
 static const int64_t numbers_41[5] = {2303280195, 2303377799, 2303426583, 2303475353, 2303524113};
 static const int64_t numbers_42[4] = {-987017445, -987051772, -987086103, -987120430};
+static const int64_t numbers_43[8] = {0, 5, 150950976225280, 3193372672, 0, 4, -64680675966976, -2249654272};
+static const int64_t numbers_44[16] = {0, 2, 150947777413120, 6383468544, 2, 3, 150957371097088, 3189309440, 0,
+	2, -64685175275520, -2249654272, 2, 2, -64689674846208, -2249654272};
+static const int64_t numbers_45[16] = {0, 2, 150950969671680, 3197763584, 2, 2, 150957364543488, 3196190720, 4,
+	1, 150963756269568, 0, 0, 4, -64680675966976, -2249654272};
+static const int64_t numbers_46[12] = {0, 5, 150950976225280, 3193372672, 0, 2, -64680675966976,
+	-32437626404864, 2, 2, -128159128485888, -27517113073664};
 
 static const struct sine_row {
 	const char *what;
@@ -505,6 +512,50 @@ static const struct sample_row {
 	{"no pass of a refused file", 32, 60002, 9, 0, {4, 0}, numbers_8},
 };
 
+static const struct all_tracks_row {
+	const char *what;
+	size_t at; int64_t value; size_t room_numbers; int64_t want[1 + FRINGE_MOST_PASSES]; size_t segments; const int64_t *numbers;
+} all_tracks_rows[] = {
+	{"all passes, room 8200", 0, 4, 8200, {0, 1, 1}, 2, numbers_43},
+	{"all passes, room 20", 0, 4, 20, {0, 1, 1}, 2, numbers_43},
+	{"all passes, room 19", 0, 4, 19, {0, 1, 1}, 2, numbers_43},
+	{"all passes, room 11", 0, 4, 11, {0, 1, 1}, 2, numbers_43},
+	{"all passes, room 8", 0, 4, 8, {0, 1, 1}, 2, numbers_43},
+	{"all passes, room 7", 0, 4, 7, {8, 0, 0}, 0, numbers_8},
+	{"all passes, room 4", 0, 4, 4, {8, 0, 0}, 0, numbers_8},
+	{"all passes, room 3", 0, 4, 3, {8, 0, 0}, 0, numbers_8},
+	{"all passes, room 0", 0, 4, 0, {8, 0, 0}, 0, numbers_8},
+	{"all passes, over a leap second, room 8200", 36, 38, 8200, {0, 2, 2}, 4, numbers_44},
+	{"all passes, over a leap second, room 16", 36, 38, 16, {0, 2, 2}, 4, numbers_44},
+	{"all passes, over a leap second, room 15", 36, 38, 15, {8, 0, 0}, 0, numbers_8},
+	{"a first pass of more segments, room 8200", 49, 0, 8200, {0, 3, 1}, 4, numbers_45},
+	{"a first pass of more segments, room 16", 49, 0, 16, {0, 3, 1}, 4, numbers_45},
+	{"a first pass of more segments, room 12", 49, 0, 12, {8, 0, 0}, 0, numbers_8},
+	{"a second pass of more segments, room 8200", 55, 3600000, 8200, {0, 1, 2}, 3, numbers_46},
+	{"a second pass of more segments, room 12", 55, 3600000, 12, {0, 1, 2}, 3, numbers_46},
+	{"a second pass of more segments, room 11", 55, 3600000, 11, {8, 0, 0}, 0, numbers_8},
+	{"a first pass whose station is not there, room 8200", 42, 11, 8200, {5, 0, 0}, 0, numbers_8},
+	{"a first pass whose station is not there, room 0", 42, 11, 0, {5, 0, 0}, 0, numbers_8},
+	{"a second pass whose source is not there, room 8200", 52, 3, 8200, {5, 0, 0}, 0, numbers_8},
+	{"a second pass whose source is not there, room 19", 52, 3, 19, {5, 0, 0}, 0, numbers_8},
+	{"a second pass whose source is not there, room 4", 52, 3, 4, {5, 0, 0}, 0, numbers_8},
+	{"a second pass whose source is not there, room 3", 52, 3, 3, {8, 0, 0}, 0, numbers_8},
+	{"a first pass not covered, room 8200", 45, 60001, 8200, {6, 0, 0}, 0, numbers_8},
+	{"a first pass not covered, room 0", 45, 60001, 0, {6, 0, 0}, 0, numbers_8},
+	{"a second pass not covered, room 8200", 53, 60002, 8200, {6, 0, 0}, 0, numbers_8},
+	{"a second pass not covered, room 19", 53, 60002, 19, {6, 0, 0}, 0, numbers_8},
+	{"a second pass not covered, room 4", 53, 60002, 4, {6, 0, 0}, 0, numbers_8},
+	{"a second pass not covered, room 3", 53, 60002, 3, {8, 0, 0}, 0, numbers_8},
+	{"all passes of a refused file, room 8200", 0, 3, 8200, {1, 0, 0}, 0, numbers_8},
+	{"all passes of a refused file, room 0", 0, 3, 0, {1, 0, 0}, 0, numbers_8},
+	{"all passes of a refused file, room 8200", 14, 6400000001, 8200, {2, 0, 0}, 0, numbers_8},
+	{"all passes of a refused file, room 0", 14, 6400000001, 0, {2, 0, 0}, 0, numbers_8},
+	{"all passes of a refused file, room 8200", 24, 1, 8200, {3, 0, 0}, 0, numbers_8},
+	{"all passes of a refused file, room 0", 24, 1, 0, {3, 0, 0}, 0, numbers_8},
+	{"all passes of a refused file, room 8200", 32, 60002, 8200, {4, 0, 0}, 0, numbers_8},
+	{"all passes of a refused file, room 0", 32, 60002, 0, {4, 0, 0}, 0, numbers_8},
+};
+
 static const struct named_row {
 	const char *what;
 	int64_t got, want;
@@ -514,6 +565,7 @@ static const struct named_row {
 	{"FRINGE_MOST_TRACK_NUMBERS", FRINGE_MOST_TRACK_NUMBERS, 8192},
 	{"FRINGE_MOST_SEGMENT_SAMPLES", FRINGE_MOST_SEGMENT_SAMPLES, 1024},
 	{"FRINGE_SEGMENT_NUMBERS", FRINGE_SEGMENT_NUMBERS, 4},
+	{"FRINGE_ALL_TRACKS_NUMBERS", FRINGE_ALL_TRACKS_NUMBERS, 524288},
 	{"FRINGE_MOST_TOLERANCE", FRINGE_MOST_TOLERANCE, 1000000},
 	{"FRINGE_MOST_DELAY", FRINGE_MOST_DELAY, 130000000000},
 	{"FRINGE_RIGHT_FILE_BYTES", FRINGE_RIGHT_FILE_BYTES, 14952},
