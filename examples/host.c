@@ -1,8 +1,8 @@
 /*
  * What a correlator's host does with a session file: examples/run-host builds and runs it on the sample session. It
- * prints the first pass's samples and its track, the prediction at its middle sample, and where the fault of a damaged
- * copy lies. A file that cannot be read, or is refused, ends it with a status that is not 0; of a refused file it
- * prints where the fault lies.
+ * prints the first pass's samples and its track, the prediction at its middle sample, the first segment of every pass
+ * from all tracks in one call, and where the fault of a damaged copy lies. A file that cannot be read, or is refused,
+ * or has a pass that is refused, ends it with a status that is not 0; of a refused file it prints where the fault lies.
  */
 #include <erlensieg.h>
 #include <errno.h>
@@ -14,7 +14,7 @@
 #define MOST_BYTES (FRINGE_ANY_FILE_BYTES + 1)
 
 static uint8_t file[MOST_BYTES], copy[MOST_BYTES];
-static int64_t samples[FRINGE_MOST_SAMPLES], track[FRINGE_MOST_TRACK_NUMBERS];
+static int64_t samples[FRINGE_MOST_SAMPLES], track[FRINGE_MOST_TRACK_NUMBERS], tracks[FRINGE_ALL_TRACKS_NUMBERS];
 
 /* reads a file and puts its length into `bytes`; 0 where it cannot be read */
 static int load(const char *name, size_t *bytes)
@@ -59,6 +59,11 @@ static size_t print_samples(size_t bytes)
 	return (size_t)taken.value;
 }
 
+static void print_segment(const int64_t *segment)
+{
+	printf("segment %" PRId64 " %" PRId64 " %" PRId64 " %" PRId64 "\n", segment[0], segment[1], segment[2], segment[3]);
+}
+
 /* the track of the first pass's samples; how many numbers it has, 0 where it is refused */
 static size_t print_track(size_t bytes, size_t count)
 {
@@ -67,11 +72,8 @@ static size_t print_track(size_t bytes, size_t count)
 	if (refused("track of pass 0", made.refusal))
 		return 0;
 	printf("%zu samples, tolerance %" PRId64 " ps: %" PRId64 " segments\n", count, pass.tolerance, made.value);
-	for (int64_t i = 0; i < made.value; i++) {
-		const int64_t *segment = track + FRINGE_SEGMENT_NUMBERS * i;
-		printf("segment %" PRId64 " %" PRId64 " %" PRId64 " %" PRId64 "\n", segment[0], segment[1], segment[2],
-		       segment[3]);
-	}
+	for (int64_t i = 0; i < made.value; i++)
+		print_segment(track + FRINGE_SEGMENT_NUMBERS * i);
 	return FRINGE_SEGMENT_NUMBERS * (size_t)made.value;
 }
 
@@ -83,6 +85,21 @@ static int print_prediction(size_t track_numbers, uint64_t sample)
 		return 0;
 	printf("prediction at sample %" PRIu64 ": %" PRId64 " ps, %.15g s, %.15g cycles\n", sample, delay.value,
 	       host.record.seconds, host.record.cycles);
+	return 1;
+}
+
+/* the tracks of all passes, in one call: how many segments each has, and its first, which stands behind those before */
+static int print_tracks(size_t bytes, int64_t passes)
+{
+	struct fringe_tracks all = fringe_all_tracks(file, bytes, tracks, FRINGE_ALL_TRACKS_NUMBERS);
+	const int64_t *first = tracks;
+	if (refused("tracks of all passes", all.refusal))
+		return 0;
+	for (int64_t i = 0; i < passes; i++) {
+		printf("pass %" PRId64 ": %" PRId64 " segments\n", i, all.counts[i]);
+		print_segment(first);
+		first += FRINGE_SEGMENT_NUMBERS * all.counts[i];
+	}
 	return 1;
 }
 
@@ -114,7 +131,7 @@ int main(int count, char **words)
 
 	size_t taken = print_samples(bytes);
 	size_t numbers = taken ? print_track(bytes, taken) : 0;
-	if (!numbers || !print_prediction(numbers, taken / 2))
+	if (!numbers || !print_prediction(numbers, taken / 2) || !print_tracks(bytes, counts.passes))
 		return 1;
 	damage(bytes);
 	return 0;

@@ -7,7 +7,7 @@ from c import header
 from c.compiler import RUNNER, compiled
 from c.names import words
 from rattle import ROOT
-from reference import delay, session, track
+from reference import delay, session, together, track
 from scripts.ran import SESSION, contents, ran, refuses, unreadable, without_rt
 
 INSTALL = os.path.join(ROOT, "examples", "install")
@@ -27,8 +27,17 @@ def text(lines):
     return "".join(line + "\n" for line in lines)
 
 
+def tracks_lines(file):
+    """What examples/host.c prints of all tracks: of each pass its count and its first segment."""
+    passes = len(session.sections_of(file)[delay.PASSES])
+    _, counts, room = together.all_tracks(file, [0] * 4 * 2_048 * passes)
+    for i, count in enumerate(counts[:passes]):
+        first = 4 * sum(counts[:i])
+        yield from ("pass %d: %d segments" % (i, count), "segment %d %d %d %d" % tuple(room[first:first + 4]))
+
+
 def example_prints(file):
-    """What examples/host.c prints for an accepted file whose first pass is not refused."""
+    """What examples/host.c prints for an accepted file of which no pass is refused."""
     lists = session.sections_of(file)
     planned = lists[delay.PASSES][0]
     samples = delay.samples_of(lists, planned)[1]
@@ -40,7 +49,7 @@ def example_prints(file):
     lines += ["%d samples, tolerance %d ps: %d segments" % (len(samples), planned[7], len(segments))]
     lines += ["segment %d %d %d %d" % segment for segment in segments]
     lines += ["prediction at sample %d: %d ps, %.15g s, %.15g cycles" % (middle, ps, *record)]
-    return text(lines + fault_lines("damaged copy", file[:104] + bytes(8) + file[112:]))
+    return text([*lines, *tracks_lines(file), *fault_lines("damaged copy", file[:104] + bytes(8) + file[112:])])
 
 
 def run_host(tally):
