@@ -24,8 +24,8 @@
  *   For the second, PKG_CONFIG_PATH has PREFIX/lib/pkgconfig. On another processor it takes a cross compiler for x86-64
  *   and an emulator, as examples/run-host shows. This header is C99, C11 or C++17. The archive needs memcpy and memset
  *   of the C library, no other. It keeps nothing between calls, so calls may run at the same time. The stack that a
- *   call takes, as measured and rounded up: fringe_track 63,000 bytes, fringe_write 16,000, fringe_tide,
- *   fringe_orientation, fringe_delay and fringe_samples 3,000, each of the others 400.
+ *   call takes, as measured and rounded up: fringe_all_tracks 165,000 bytes, fringe_track 63,000, fringe_write 16,000,
+ *   fringe_tide, fringe_orientation, fringe_delay and fringe_samples 3,200, each of the others 400.
  *
  * Lent memory
  *   NULL may not be passed, not even with length 0. For an empty slice pass fringe_no_numbers() or fringe_no_bytes().
@@ -116,8 +116,8 @@
 #include <stdint.h>
 
 /* the version; as a number to compare it is 10,000 times the first, and 100 times the second, and the third */
-#define FRINGE_VERSION "0.1.0"
-#define FRINGE_VERSION_NUMBER 100
+#define FRINGE_VERSION "0.2.0"
+#define FRINGE_VERSION_NUMBER 200
 
 /* ---- Limits */
 
