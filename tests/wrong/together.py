@@ -158,7 +158,6 @@ COUNTS = {
 }
 
 
-
 def counted(wrong):
     return lambda counts: RIGHT_COUNTS(wrong(counts))
 

@@ -4,11 +4,11 @@ use mathlib.Core.Bool.{Bool, true, false}
 use mathlib.Core.List.{List, [], _∷_}
 use Prim.Native.Nat.{ℕ, zero, suc, _≤_, _<_}
 use native.Mathlib.Omega.{arith}
-use borrow.Author.Tests.{lt-ltb, leb-true}
+use borrow.Author.Tests.{lt-ltb, le-ltb, leb-true}
 use lib.Dec.{leb, ltb}
 use lib.IntN.{ℤ}
 use Rattle.whole.specs.Refusals.{unless, lowerOf, firstOf}
-use Rattle.whole.proofs.Refusals.{end, test, up-to, in-order, joined, lower-most}
+use Rattle.whole.proofs.Refusals.{end, test, up-to, in-order, first-is, joined, lower-most}
 use Rattle.fields.specs.declared.Pass.{Pass}
 use Rattle.sections.proofs.Shapes.{today}
 use Rattle.sections.specs.File.{refusalOf, countOf}
@@ -66,12 +66,19 @@ module _ (s : List ℕ) (i : ℕ) where
       (up-to (refusalOf s) 4 (refusal-most today s)
       (test 4 5 indexOk (omega arith) (test 5 5 namesOk (omega arith) (test 5 6 daysOk (omega arith) (test 6 7 (roomOk n) (omega arith) end)))))
 
-  -- of a pass that is there, in a file that is accepted, the number is what the file lacks for it
+  -- of a file that is refused the number is the file's own
+  pub file-number : (n : ℕ) → (refusalOf s ≡ 0 → ⊥) → samplesNumber s i n ≡ refusalOf s
+  file-number n f = samples-first n ∙ first-is (refusalOf s) (unless indexOk 5 ∷ unless namesOk 5 ∷ unless daysOk 6 ∷ unless (roomOk n) 7 ∷ []) f
+
+  -- of one that is accepted it is 5 beyond the last pass, and else what the file lacks for the pass
+  pub beyond-number : (n : ℕ) → refusalOf s ≡ 0 → countOf s 3 ≤ i → samplesNumber s i n ≡ 5
+  beyond-number n h l = samples-first n ∙ rw (h, le-ltb i (countOf s 3) l)
+
   pub lacks-number : (n : ℕ) → refusalOf s ≡ 0 → i < countOf s 3 → samplesNumber s i n ≡ lacksOf s (passOf s i) n
   lacks-number n h l = samples-first n ∙ rw (h, lt-ltb i (countOf s 3) l)
 
 -- nothing is lacking exactly where no test fails
-each-holds : (a b c : Bool) → firstOf (unless a 5 ∷ unless b 6 ∷ unless c 7 ∷ []) ≡ 0 → (a ≡ true) × (b ≡ true) × (c ≡ true)
+pub each-holds : (a b c : Bool) → firstOf (unless a 5 ∷ unless b 6 ∷ unless c 7 ∷ []) ≡ 0 → (a ≡ true) × (b ≡ true) × (c ≡ true)
 each-holds true true true e = (refl, refl, refl)
 each-holds true true false e = absurd (omega arith)
 each-holds true false c e = absurd (omega arith)
@@ -82,6 +89,15 @@ pub none-lacking : (s : List ℕ) (p : Pass) (n : ℕ) → lacksOf s p n ≡ 0
 none-lacking s p n e =
     let h = each-holds (placesThere s (placesOf s p)) (allCovered s p) (leb (samplesOf p) n) e in
     (h .0, h .1, leb-true (samplesOf p) n (h .2))
+
+most-lacking : (a b c : Bool) → firstOf (unless a 5 ∷ unless b 6 ∷ unless c 7 ∷ []) ≤ 7
+most-lacking true true true = omega arith
+most-lacking true true false = omega arith
+most-lacking true false c = omega arith
+most-lacking false b c = omega arith
+
+pub lacks-most : (s : List ℕ) (p : Pass) (n : ℕ) → lacksOf s p n ≤ 7
+lacks-most s p n = most-lacking (placesThere s (placesOf s p)) (allCovered s p) (leb (samplesOf p) n)
 
 -- where 6 is given, the days are what failed
 pub six-fails : (f : ℕ) (i t c r : Bool) → f ≤ 4 → firstOf (f ∷ unless i 5 ∷ unless t 5 ∷ unless c 6 ∷ unless r 7 ∷ []) ≡ 6 → c ≡ false

@@ -33,7 +33,7 @@ use Rattle.delay.specs.Sessions.{hasId, covers, earthIn, sampleEpoch}
 use Rattle.delay.proofs.Accepted.{names-in}
 use Rattle.delay.proofs.Covered.{earth-in-size}
 use Rattle.delay.proofs.Epochs.{sample-ms}
-use Rattle.delay.proofs.Numbers.{judgedOf, indexOk, namesOk, daysOk, roomOk, delay-first, samples-first, six-fails}
+use Rattle.delay.proofs.Numbers.{judgedOf, indexOk, namesOk, daysOk, roomOk, delay-first, samples-first, each-holds, six-fails}
 use Rattle.delay.proofs.Ranges.{asked-in}
 use Rattle.whole.proofs.Values.{sample-at}
 
@@ -161,16 +161,8 @@ samples-clear s i n e =
     let m = roomOk s i n in
     let f = first-zero (refusalOf s) (unless x 5 ∷ unless t 5 ∷ unless c 6 ∷ unless m 7 ∷ []) (sym (samples-first s i n) ∙ e) in
     let g = first-zero (unless x 5) (unless t 5 ∷ unless c 6 ∷ unless m 7 ∷ []) (f .1) in
-    let k = first-zero (unless t 5) (unless c 6 ∷ unless m 7 ∷ []) (g .1) in
-    let l = first-zero (unless c 6) (unless m 7 ∷ []) (k .1) in
-    let o = first-zero (unless m 7) [] (l .1) in
-    record {
-      accepted = f .0;
-      there = unless-zero x 4 (g .0);
-      named = unless-zero t 4 (k .0);
-      covered = unless-zero c 5 (l .0);
-      enough = unless-zero m 6 (o .0);
-    }
+    let h = each-holds t c m (g .1) in
+    record { accepted = f .0; there = unless-zero x 4 (g .0); named = h .0; covered = h .1; enough = h .2 }
 
 -- every sample that is given lies within ±130,000,000,000
 pub sample-bounded : (s : List ℕ) (i n j : ℕ) → samplesNumber s i n ≡ 0 → j < samplesOf (passOf s i) → ∣ sampleIn s (passOf s i) j ∣ ≤ 130000000000

@@ -1,12 +1,12 @@
 -- A pass of a file that is accepted: what its track call answers by the room, and how many segments it takes at most. Assumes nothing.
 use mathlib.Core.Path.{_≡_, refl, sym, ap, _∙_}
-use mathlib.Core.Bool.{Bool, true, false}
+use mathlib.Core.Bool.{true}
 use mathlib.Core.List.{List, [], _∷_}
 use mathlib.Core.Logic.{⊎-elim}
-use Prim.Native.Nat.{ℕ, _-_, _/_, _≤_, _<_}
+use Prim.Native.Nat.{ℕ, _/_, _≤_, _<_}
 use native.Mathlib.Decide.{ℕ-discrete}
 use native.Mathlib.Omega.{arith}
-use borrow.Author.Tests.{le-ltb, le-leb, lt-leb}
+use borrow.Author.Tests.{le-leb, lt-leb}
 use lib.Dec.{leb}
 use lib.IntN.{ℤ, pos}
 use lib.ListN.{length, getD}
@@ -24,7 +24,6 @@ use Rattle.session.specs.Records.{passOf}
 use Rattle.session.proofs.Laws.{pass-in}
 use Rattle.delay.specs.Calls.{samplesOf, sampleIn}
 use Rattle.delay.proofs.Epochs.{samples-count}
-use Rattle.delay.proofs.Numbers.{indexOk, namesOk, daysOk, roomOk, samples-first, lacks-number}
 use Rattle.delay.proofs.Theorems.{sample-bounded}
 use Rattle.fit.proofs.Tests.{lt-or}
 use Rattle.track.specs.Segments.{Segment}
@@ -40,28 +39,6 @@ passTrack s i = trackOf (passSamples s i) (posPart (passOf s i .tolerance))
 
 pub size-pos : (n : ℕ) → ∣ pos n ∣ ≡ n
 size-pos n = omega arith
-
-pub from-none : (n : ℕ) → n - 0 ≡ n
-from-none n = omega arith
-
--- ---- the number of a pass
-
--- that of a file that is refused
-pub of-file : (s : List ℕ) (i : ℕ) → (refusalOf s ≡ 0 → ⊥) → passNumber s i ≡ refusalOf s
-of-file s i f = samples-first s i 4096 ∙ first-is (refusalOf s) (unless (indexOk s i) 5 ∷ unless (namesOk s i) 5 ∷ unless (daysOk s i) 6 ∷ unless (roomOk s i 4096) 7 ∷ []) f
-
--- 5 beyond the last
-pub beyond : (s : List ℕ) (i : ℕ) → refusalOf s ≡ 0 → countOf s 3 ≤ i → passNumber s i ≡ 5
-beyond s i h l = samples-first s i 4096 ∙ rw (h, le-ltb i (countOf s 3) l) refl
-
-seven-most : (a b c : Bool) → firstOf (unless a 5 ∷ unless b 6 ∷ unless c 7 ∷ []) ≤ 7
-seven-most true true true = omega arith
-seven-most true true false = omega arith
-seven-most true false c = omega arith
-seven-most false b c = omega arith
-
-pub at-most : (s : List ℕ) (i : ℕ) → refusalOf s ≡ 0 → i < countOf s 3 → passNumber s i ≤ 7
-at-most s i h l = rw (lacks-number s i 4096 h l) (seven-most (namesOk s i) (daysOk s i) (roomOk s i 4096))
 
 -- ---- what its track call answers
 
@@ -95,12 +72,16 @@ module _ (s : List ℕ) (h : refusalOf s ≡ 0) (i : ℕ) (l : i < countOf s 3) 
         let k = samplesOf (passOf s i) in
         omega (arith, half-most (passSamples s i) (passOf s i .tolerance) (taken e), values-long k (sampleIn s (passOf s i)))
 
-    -- the track is written if it fits, and else the pass is refused
+    -- the track is written if it fits, and counted; else the pass is refused
     pub fits : (room : List ℤ) → segmentsIn s i ≤ length room / 4 → passOutcome s i room ≡ written (passTrack s i) room
     unfolding segmentsIn
     fits room k = made s i room e ∙ answer-0 (passSamples s i) (passOf s i .tolerance) room (taken e) k
 
-    pub too-long : (room : List ℤ) → length room / 4 < segmentsIn s i → passOutcome s i room ≡ refused 8 room
+    pub count-is : (room : List ℤ) → segmentsIn s i ≤ length room / 4 → passOutcome s i room .answer .value ≡ pos (segmentsIn s i)
+    unfolding segmentsIn
+    count-is room k = ap (λ (o : Outcome). o .answer .value) (fits room k)
+
+    too-long : (room : List ℤ) → length room / 4 < segmentsIn s i → passOutcome s i room ≡ refused 8 room
     unfolding segmentsIn
     too-long room k = made s i room e ∙ answer-8 (passSamples s i) (passOf s i .tolerance) room (taken e) k
 
@@ -129,5 +110,4 @@ module _ (s : List ℕ) (h : refusalOf s ≡ 0) (i : ℕ) (l : i < countOf s 3) 
         by (yes e) = ap (λ (o : Outcome). o .answer .refusal) (fits e room (always e)) ∙ ap pos (sym e)
 
     pub lent-count : passNumber s i ≡ 0 → passOutcome s i room .answer .value ≡ pos (segmentsIn s i)
-    unfolding segmentsIn
-    lent-count e = ap (λ (o : Outcome). o .answer .value) (fits e room (always e))
+    lent-count e = count-is e room (always e)

@@ -7,12 +7,12 @@ use native.Mathlib.Numerals.{add-one}
 use native.Mathlib.Omega.{arith}
 use borrow.Author.Tests.{le-leb, lt-leb, leb-true}
 use lib.Dec.{leb}
-use lib.IntN.{ℤ, pos}
+use lib.IntN.{ℤ}
 use lib.ListN.{length, drop, length-drop}
 use lib.Seq.{drop-at}
 use Rattle.whole.specs.Whole.{posPart, ∣_∣}
 use Rattle.whole.specs.Refusals.{unless, firstOf}
-use Rattle.whole.proofs.Refusals.{first-zero, first-is, unless-zero}
+use Rattle.whole.proofs.Refusals.{first-zero, first-is, first-one, unless-zero}
 use Rattle.sections.specs.File.{refusalOf, countOf}
 use Rattle.sections.specs.Layouts.{places}
 use Rattle.session.specs.Records.{passOf}
@@ -27,19 +27,15 @@ use Rattle.fringe.proofs.Passes.{size-pos, passTrack, segments-most, fi
 
 -- ---- numbers, the first of which applies
 
-joined : (a b r q : ℕ) → (a ≡ 0 → b ≡ 0 → r ≡ q) → firstOf (firstOf (a ∷ b ∷ []) ∷ r ∷ []) ≡ firstOf (a ∷ b ∷ q ∷ [])
-joined zero zero zero q e = ap (λ (n : ℕ). firstOf (n ∷ [])) (e refl refl)
-joined zero zero (suc r) q e = ap (λ (n : ℕ). firstOf (n ∷ [])) (e refl refl)
-joined zero (suc b) r q e = refl
-joined (suc a) b r q e = refl
+both-first : (a b r q : ℕ) → (a ≡ 0 → b ≡ 0 → r ≡ q) → firstOf (firstOf (a ∷ b ∷ []) ∷ r ∷ []) ≡ firstOf (a ∷ b ∷ q ∷ [])
+both-first zero zero zero q e = ap (λ (n : ℕ). firstOf (n ∷ [])) (e refl refl)
+both-first zero zero (suc r) q e = ap (λ (n : ℕ). firstOf (n ∷ [])) (e refl refl)
+both-first zero (suc b) r q e = refl
+both-first (suc a) b r q e = refl
 
 same-behind : (a b c r q : ℕ) → (a ≡ 0 → (b ≡ c) × (r ≡ q)) → firstOf (a ∷ b ∷ r ∷ []) ≡ firstOf (a ∷ c ∷ q ∷ [])
 same-behind zero b c r q e = ap₂ (λ (x y : ℕ). firstOf (x ∷ y ∷ [])) (e refl .0) (e refl .1)
 same-behind (suc a) b c r q e = refl
-
-pub alone : (n : ℕ) → firstOf (n ∷ []) ≡ n
-alone zero = refl
-alone (suc n) = refl
 
 -- ---- of n passes those from pass i on
 
@@ -69,11 +65,7 @@ module _ (s : List ℕ) (h : refusalOf s ≡ 0) where
         (f .0, leb-true (segmentsIn s i) (length room / 4) (unless-zero _ 7 (first-zero _ [] (f .1) .0)))
 
     module _ (e : passNumber s i ≡ 0) (k : segmentsIn s i ≤ length room / 4) where
-      pub count-is : passOutcome s i room .answer .value ≡ pos (segmentsIn s i)
-      unfolding segmentsIn
-      count-is = ap (λ (o : Outcome). o .answer .value) (fits s h i l e room k)
-
-      pub left-is : drop (4 * posPart (passOutcome s i room .answer .value)) (passOutcome s i room .room) ≡ drop (4 * segmentsIn s i) room
+      left-is : drop (4 * posPart (passOutcome s i room .answer .value)) (passOutcome s i room .room) ≡ drop (4 * segmentsIn s i) room
       unfolding segmentsIn
       left-is = ap (λ (o : Outcome). drop (4 * posPart (o .answer .value)) (o .room)) (fits s h i l e room k)
           ∙ drop-at (flat (passTrack s i)) (drop (4 * length (passTrack s i)) room) (4 * length (passTrack s i)) (flat-length (passTrack s i))
@@ -95,7 +87,7 @@ module _ (s : List ℕ) (h : refusalOf s ≡ 0) where
       let after : passNumber s i ≡ 0 → unless (leb (segmentsIn s i) left) 8 ≡ 0 → inTurn s m (suc i) behind .refusal ≡ numberFrom s m (suc i) (left - segmentsIn s i) =
       λ e f. turn-number m (suc i) behind (omega arith) ∙ ap (numberFrom s m (suc i)) (left-long i c room e (leb-true _ _ (unless-zero _ 7 f))) in
       ap (λ (x : ℕ). firstOf (x ∷ inTurn s m (suc i) behind .refusal ∷ [])) n
-      ∙ joined (passNumber s i) (unless (leb (segmentsIn s i) left) 8) (inTurn s m (suc i) behind .refusal) (numberFrom s m (suc i) (left - segmentsIn s i)) after
+      ∙ both-first (passNumber s i) (unless (leb (segmentsIn s i) left) 8) (inTurn s m (suc i) behind .refusal) (numberFrom s m (suc i) (left - segmentsIn s i)) after
 
   -- where the segments left are enough for all that may come, it does not matter how many they are
   ample-same : (m i a b : ℕ) → i + m ≤ countOf s 3 → mostFrom s m i ≤ a → mostFrom s m i ≤ b → numberFrom s m i a ≡ numberFrom s m i b
@@ -115,7 +107,7 @@ module _ (s : List ℕ) (h : refusalOf s ≡ 0) where
   half-enough (suc m) i left l k e =
       let n = e i (omega arith) (omega arith) in
       let f = segments-most s h i (omega arith) n in
-      rw (n, le-leb (segmentsIn s i) left (omega arith)) (alone _ ∙ half-enough m (suc i) (left - segmentsIn s i) (omega arith) (omega arith) (λ j p q. e j (omega arith) (omega arith)))
+      rw (n, le-leb (segmentsIn s i) left (omega arith)) (first-one _ ∙ half-enough m (suc i) (left - segmentsIn s i) (omega arith) (omega arith) (λ j p q. e j (omega arith) (omega arith)))
 
   -- ---- the same, pass by pass
 
@@ -134,7 +126,7 @@ module _ (s : List ℕ) (h : refusalOf s ≡ 0) where
 
       passed-on : segmentsIn s i ≤ left → numberFrom s (suc m) i left ≡ numberFrom s m (suc i) (left - segmentsIn s i)
       unfolding numberFrom
-      passed-on k = rw (e, le-leb (segmentsIn s i) left k) (alone (numberFrom s m (suc i) (left - segmentsIn s i)))
+      passed-on k = rw (e, le-leb (segmentsIn s i) left k) (first-one (numberFrom s m (suc i) (left - segmentsIn s i)))
 
       -- they are enough, and the passes behind it decide
       pub first-behind : (b : Bool) → leb (mostFrom s (suc m) i) left ≡ b → takenBy s i b ≤ left → numberFrom s (suc m) i left ≡ numberFrom s m (suc i) (left - takenBy s i b)

@@ -10,7 +10,7 @@ use Rattle.whole.specs.Whole.{posPart, ∣_∣}
 use Rattle.whole.specs.Refusals.{firstOf}
 use Rattle.whole.specs.declared.Number.{Number}
 use Rattle.whole.proofs.Answers.{given-yes, given-no}
-use Rattle.whole.proofs.Refusals.{first-is}
+use Rattle.whole.proofs.Refusals.{first-is, first-one, first-then}
 use Rattle.sections.specs.File.{refusalOf, countOf}
 use Rattle.track.specs.Answer.{Outcome}
 use Rattle.fringe.specs.declared.Tracks.{Tracks}
@@ -19,7 +19,7 @@ use Rattle.fringe.specs.AllTracks.{Turns, inTurn, allNumber, AllOutcome,
 use Rattle.fringe.specs.OneByOne.{Asked, none, next, firstRefusal, AsAsked}
 use Rattle.fringe.specs.Promises.{AllTracksPromise}
 use Rattle.fringe.specs.Sharing.{mostFrom}
-use Rattle.fringe.proofs.Sharing.{alone, turn-number, half-enough}
+use Rattle.fringe.proofs.Sharing.{turn-number, half-enough}
 
 -- ---- by its number
 
@@ -39,14 +39,9 @@ of-file s room f = first-is (refusalOf s) (inTurn s (countOf s 3) 0 room .refusa
 
 pub of-passes : (s : List ℕ) (room : List ℤ) → refusalOf s ≡ 0 → allNumber s room ≡ inTurn s (countOf s 3) 0 room .refusal
 unfolding allNumber
-of-passes s room h = rw h (alone (inTurn s (countOf s 3) 0 room .refusal))
+of-passes s room h = rw h (first-one (inTurn s (countOf s 3) 0 room .refusal))
 
 -- ---- single calls in turn
-
--- the first of several
-first-then : (n : ℕ) (ns : List ℕ) → firstOf (n ∷ firstOf ns ∷ []) ≡ firstOf (n ∷ ns)
-first-then zero ns = alone (firstOf ns)
-first-then (suc n) ns = refl
 
 -- an outcome, then what the others give
 abbrev followed : Outcome → Turns → Turns

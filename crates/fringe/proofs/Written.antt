@@ -14,8 +14,9 @@ use Rattle.track.specs.Answer.{Outcome}
 use Rattle.fringe.specs.PassTrack.{passOutcome}
 use Rattle.fringe.specs.AllTracks.{Turns, inTurn}
 use Rattle.fringe.specs.Sharing.{segmentsIn}
-use Rattle.fringe.proofs.Passes.{from-none}
-use Rattle.fringe.proofs.Sharing.{from-next, from-all, answered, count-is}
+use Rattle.track.proofs.Runs.{less-none}
+use Rattle.fringe.proofs.Passes.{count-is}
+use Rattle.fringe.proofs.Sharing.{from-next, from-all, answered}
 
 -- the tracks of the first i of n passes stand in the first `at` numbers of the room, their counts in the first i of the counts, which are 0 behind them; with
 -- those of the other passes, which are given the rest of the room, they are the tracks of all
@@ -47,7 +48,7 @@ module _ (s : List ℕ) (h : refusalOf s ≡ 0) (n i : ℕ) (l : i < n) (c : n �
       (f .0, first-zero (behind .refusal) [] (f .1) .0)
 
   pub count-here : outcome .answer .value ≡ pos (segmentsIn s i)
-  count-here = let a = answered s h i (omega arith) (drop at room) (refusals .0) in count-is s h i (omega arith) (drop at room) (a .0) (a .1)
+  count-here = let a = answered s h i (omega arith) (drop at room) (refusals .0) in count-is s h i (omega arith) (a .0) (drop at room) (a .1)
 
   pub fits-here : segmentsIn s i ≤ length (drop at room) / 4
   fits-here = answered s h i (omega arith) (drop at room) (refusals .0) .1
@@ -65,7 +66,7 @@ module _ (s : List ℕ) (h : refusalOf s ≡ 0) (n i : ℕ) (l : i < n) (c : n �
     turns : inTurn s others (suc i) (drop (at + used) after) ≡ behind
     turns = ap (inTurn s others (suc i)) rest
 
-    pub written-next : i < 64 → length counts ≡ 64 → WrittenTo s n start after (set counts i (outcome .answer .value)) (at + used) (suc i)
+    written-next : i < 64 → length counts ≡ 64 → WrittenTo s n start after (set counts i (outcome .answer .value)) (at + used) (suc i)
     unfolding inTurn
     written-next few full =
         let now = ap (λ (m : ℕ). inTurn s m i (drop at room)) (from-next n i l) in
@@ -109,7 +110,7 @@ rest-back at room ys =
 
 pub written-none : (s : List ℕ) (n : ℕ) (room : List ℤ) → inTurn s n 0 room .refusal ≡ 0 → WrittenTo s n room room (replicate 64 (pos 0)) 0 0
 written-none s n room e =
-    let z = ap (λ (m : ℕ). inTurn s m 0 room) (sym (from-none n)) in
+    let z = ap (λ (m : ℕ). inTurn s m 0 room) (sym (less-none n)) in
     record {
       room-is = ap (λ (t : Turns). t .room) z;
       counts-are = ap (λ (t : Turns). t .counts) z;

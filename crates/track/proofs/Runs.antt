@@ -30,11 +30,11 @@ pub trackOf-rest : (s : List ℤ) (t : ℕ) → trackOf s t ≡ restOf s t (leng
 unfolding trackOf restOf
 trackOf-rest s t = refl
 
+pub less-none : (n : ℕ) → n - 0 ≡ n
+less-none n = omega arith
+
 pub trackOf-start : (s : List ℤ) (t : ℕ) → restOf s t (length s - 0) 0 ≡ trackOf s t
-trackOf-start s t = ap (λ (z : ℕ). restOf s t z 0) (less (length s)) ∙ sym (trackOf-rest s t)
-  where
-    less : (n : ℕ) → n - 0 ≡ n
-    less n = omega arith
+trackOf-start s t = ap (λ (z : ℕ). restOf s t z 0) (less-none (length s)) ∙ sym (trackOf-rest s t)
 
 module _ (s : List ℤ) (t : ℕ) (small : Small s) (tol : t ≤ 1_000_000) where
   pub run-pos : (f : ℕ) → 1 ≤ runOf s t f

@@ -55,6 +55,15 @@ pub first-is : (n : ℕ) (ns : List ℕ) → (n ≡ 0 → ⊥) → firstOf (n �
 first-is zero ns g = absurd (g refl)
 first-is (suc n) ns g = refl
 
+-- one number alone; and numbers behind one, judged by themselves
+pub first-one : (n : ℕ) → firstOf (n ∷ []) ≡ n
+first-one zero = refl
+first-one (suc n) = refl
+
+pub first-then : (n : ℕ) (ns : List ℕ) → firstOf (n ∷ firstOf ns ∷ []) ≡ firstOf (n ∷ ns)
+first-then zero ns = first-one (firstOf ns)
+first-then (suc n) ns = refl
+
 -- ---- two numbers joined to their lower one
 
 pub lower-none : (a : ℕ) → lowerOf a 0 ≡ a

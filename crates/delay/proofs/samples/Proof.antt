@@ -1,38 +1,30 @@
 -- `delay::samples` meets its contract.
 use mathlib.Core.Path.{_≡_, sym, ap, ap₂, _∙_}
-use mathlib.Core.Bool.{false}
-use mathlib.Core.List.{List, [], _∷_}
-use Prim.Native.Nat.{ℕ, _<_}
+use mathlib.Core.List.{List}
+use Prim.Native.Nat.{ℕ, _≤_, _<_}
 use native.Mathlib.Omega.{arith}
 use borrow.Author.Needs.{needs}
-use borrow.Author.Tests.{le-ltb}
-use lib.Dec.{ltb}
 use lib.ListN.{length}
 use lib.IntN.{ℤ}
 use Rattle.whole.specs.declared.Number.{Number}
 use Rattle.whole.specs.Answers.{number, noNumber, answerBy}
-use Rattle.whole.specs.Refusals.{unless, firstOf}
 use Rattle.whole.proofs.Answers.{given-no, answer-yes, answer-no}
 use Rattle.whole.proofs.Linear.{ret}
-use Rattle.whole.proofs.Refusals.{first-is}
 use Rattle.fields.specs.declared.Pass.{Pass}
 use Rattle.sections.specs.File.{refusalOf, countOf}
 use Rattle.session.specs.Records.{passOf}
 use Rattle.session.proofs.Laws.{pass-in}
 use Rattle.delay.specs.Calls.{samplesNumber, samplesOutcome, samplesRoom}
 use Rattle.delay.specs.Keeping.{lacksOf, roomBy}
-use Rattle.delay.proofs.Numbers.{indexOk, namesOk, daysOk, roomOk, samples-first, lacks-number}
+use Rattle.delay.proofs.Numbers.{file-number, beyond-number, lacks-number}
 use Rattle.delay.proofs.samples.Statement.{statement}
 use Rattle.delay.proofs.samples.Tie as tie
 
 -- the answer and the room, where the call is refused before the pass is read
 module _ (s : List ℕ) (i : ℕ) (room : List ℤ) where
-  abbrev tests : List ℕ
-  tests = unless (indexOk s i) 5 ∷ unless (namesOk s i) 5 ∷ unless (daysOk s i) 6 ∷ unless (roomOk s i (length room)) 7 ∷ []
-
-  refused : (k : ℕ) {v : Number} → v ≡ noNumber k → firstOf (refusalOf s ∷ tests) ≡ k → (k ≡ 0 → ⊥) → (v ≡ samplesOutcome s i (length room)) × (room ≡ samplesRoom s i room)
+  refused : (k : ℕ) {v : Number} → v ≡ noNumber k → samplesNumber s i (length room) ≡ k → (k ≡ 0 → ⊥) → (v ≡ samplesOutcome s i (length room)) × (room ≡ samplesRoom s i room)
   unfolding samplesOutcome samplesRoom
-  refused k e f g = let h = samples-first s i (length room) ∙ f in (e ∙ sym (rw h (answer-no k _ g)), sym (rw h (given-no k _ (λ (m : ℕ). room) g)))
+  refused k e f g = (e ∙ sym (rw f (answer-no k _ g)), sym (rw f (given-no k _ (λ (m : ℕ). room) g)))
 
 module _ (c : tie.After-refusal-of) where
   abbrev start : tie.Start
@@ -58,7 +50,7 @@ returns c =
     let k = c .before .before in
     let e = k .refusal-of .ensures .0 in
     let g : refusalOf (file k) ≡ 0 → ⊥ = λ z. c .before .if1 .taken (e ∙ z) in
-    refused (file k) (i k) (room k) (k .refusal-of .result) (c .no-number .ensures) (first-is (refusalOf (file k)) (tests (file k) (i k) (room k)) g ∙ sym e) (c .before .if1 .taken)
+    refused (file k) (i k) (room k) (k .refusal-of .result) (c .no-number .ensures) (file-number (file k) (i k) (length (room k)) g ∙ sym e) (c .before .if1 .taken)
 
 module _ (c : tie.Else1) where
   abbrev k1 : tie.After-refusal-of
@@ -77,8 +69,8 @@ returns-2 : tie.Need-returns-2
 returns-2 c =
     let o = c .before .before in
     let k = k1 (o .before) in
-    let l : ltb (i k) (countOf (file k) 3) ≡ false = le-ltb (i k) (countOf (file k) 3) (rw (o .count-of .ensures .0) at (c .before .if2 .taken)) in
-    refused (file k) (i k) (room k) 5 (c .no-number2 .ensures) (rw (accepted (o .before), l)) (λ z. omega arith)
+    let l : countOf (file k) 3 ≤ i k = rw (o .count-of .ensures .0) at (c .before .if2 .taken) in
+    refused (file k) (i k) (room k) 5 (c .no-number2 .ensures) (beyond-number (file k) (i k) (length (room k)) (accepted (o .before)) l) (λ z. omega arith)
 
 module _ (c : tie.Else2) where
   abbrev e1 : tie.Else1

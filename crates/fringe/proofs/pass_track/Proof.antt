@@ -11,7 +11,8 @@ use Rattle.whole.specs.Answers.{noNumber}
 use Rattle.sections.specs.File.{refusalOf, countOf}
 use Rattle.track.specs.Answer.{Outcome, refused}
 use Rattle.fringe.specs.PassTrack.{passNumber, passOutcome}
-use Rattle.fringe.proofs.Passes.{of-file, beyond, lacking}
+use Rattle.delay.proofs.Numbers.{file-number, beyond-number}
+use Rattle.fringe.proofs.Passes.{lacking}
 use Rattle.fringe.proofs.pass_track.Statement.{statement}
 use Rattle.fringe.proofs.pass_track.Tie as tie
 
@@ -34,7 +35,7 @@ returns c =
     let x = t .before .before .args in
     let e = t .refusal-of .ensures .0 in
     gives (x .file .now) (x .pass) (x .room .now) (c .no-number .result) (t .refusal-of .result) (c .no-number .ensures)
-    (of-file (x .file .now) (x .pass) (λ z. c .before .if1 .taken (e ∙ z)) ∙ sym e) (c .before .if1 .taken)
+    (file-number (x .file .now) (x .pass) 4096 (λ z. c .before .if1 .taken (e ∙ z)) ∙ sym e) (c .before .if1 .taken)
 
 accepted : (c : tie.Else1) → refusalOf (c .before .before .before .args .file .now) ≡ 0
 accepted c = sym (c .before .refusal-of .ensures .0) ∙ c .if1 .left
@@ -50,7 +51,7 @@ returns-2 c =
     let k = c .before .before in
     let x = k .before .before .before .before .args in
     let l : countOf (x .file .now) 3 ≤ x .pass = rw (k .count-of .ensures .0) at (c .before .if2 .taken) in
-    gives (x .file .now) (x .pass) (x .room .now) (c .no-number2 .result) 5 (c .no-number2 .ensures) (beyond (x .file .now) (x .pass) (accepted (k .before)) l) (λ z. omega arith)
+    gives (x .file .now) (x .pass) (x .room .now) (c .no-number2 .result) 5 (c .no-number2 .ensures) (beyond-number (x .file .now) (x .pass) 4096 (accepted (k .before)) l) (λ z. omega arith)
 
 slice-aggregate-track-in : tie.Need-slice-aggregate-track-in
 slice-aggregate-track-in c = search needs

@@ -19,10 +19,11 @@ use Rattle.delay.specs.Calls.{samplesOf, sampleIn}
 use Rattle.delay.specs.Keeping.{lacksOf, roomBy}
 use Rattle.delay.proofs.Epochs.{samples-count, samples-read, samples-cast}
 use Rattle.delay.proofs.Numbers.{lacks-number}
+use Rattle.track.proofs.Runs.{less-none}
 use Rattle.track.specs.Answer.{outcome, refused}
 use Rattle.fringe.specs.PassTrack.{passSamples, passNumber}
 use Rattle.fringe.proofs.Taken.{room-start, room-long}
-use Rattle.fringe.proofs.Passes.{from-none, lacking, made}
+use Rattle.fringe.proofs.Passes.{lacking, made}
 use Rattle.fringe.proofs.single.track_in.Statement.{statement}
 use Rattle.fringe.proofs.single.track_in.Tie as tie
 
@@ -135,7 +136,7 @@ returns-2 c =
     let f = file o in
     let r = room o in
     let xs : take (natAbs (toZ w64 (ofZ w64 (pass o .samples))) - 0) (t e .pass-samples .last .1 .1 .0) ≡ passSamples f (i o) =
-    ap₂ take (from-none _ ∙ count-is e) (stored e)
+    ap₂ take (less-none _ ∙ count-is e) (stored e)
     ∙ room-start f (pass o) (place o) (t e .pass-samples .result) (e .if1 .left)
     ∙ ap (λ (x : Pass). firstValues (samplesOf x) (sampleIn f x)) (pass-is o) in
     let u : toZ w64 (ofZ w64 (pass o .tolerance)) ≡ passOf f (i o) .tolerance =

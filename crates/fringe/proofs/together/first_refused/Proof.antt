@@ -10,7 +10,7 @@ use Rattle.sections.specs.File.{countOf}
 use Rattle.session.proofs.Laws.{pass-in}
 use Rattle.fringe.specs.PassTrack.{passNumber}
 use Rattle.fringe.specs.Sharing.{mostOf, mostFrom, takenBy, numberFrom}
-use Rattle.fringe.proofs.Passes.{from-none}
+use Rattle.track.proofs.Runs.{less-none}
 use Rattle.fringe.proofs.Sharing.{from-next, from-all, most-next, few-passes, first-lacking, first-eight, first-behind}
 use Rattle.fringe.proofs.together.first_refused.Statement.{statement}
 use Rattle.fringe.proofs.together.first_refused.Tie as tie
@@ -28,7 +28,7 @@ most-in-all-requires c κs = search needs
 loop-holds : tie.Need-loop-holds Inv-loop μ-loop
 loop-holds c =
     let x = c .before .before .args in
-    let z = from-none (x .passes) in (
+    let z = less-none (x .passes) in (
       omega arith,
       c .most-in-all .ensures ∙ ap (λ (m : ℕ). mostFrom (x .file .now) m 0) (sym z),
       ap (λ (m : ℕ). numberFrom (x .file .now) m 0 (x .room)) z,

@@ -7,7 +7,7 @@ use native.Mathlib.Omega.{arith}
 use Rattle.sections.specs.File.{countOf}
 use Rattle.session.proofs.Laws.{pass-in}
 use Rattle.fringe.specs.Sharing.{mostOf, mostFrom}
-use Rattle.fringe.proofs.Passes.{from-none}
+use Rattle.track.proofs.Runs.{less-none}
 use Rattle.fringe.proofs.Sharing.{from-all, most-next, few-passes}
 use Rattle.fringe.proofs.together.most_in_all.Statement.{statement}
 use Rattle.fringe.proofs.together.most_in_all.Tie as tie
@@ -19,7 +19,7 @@ abbrev μ-loop : tie.MeasureT-loop
 μ-loop file passes most₀ i₀ most i = passes - i
 
 loop-holds : tie.Need-loop-holds Inv-loop μ-loop
-loop-holds c = (omega arith, omega arith, zero-add _ ∙ ap (λ (m : ℕ). mostFrom (c .before .args .file .now) m 0) (from-none (c .before .args .passes)))
+loop-holds c = (omega arith, omega arith, zero-add _ ∙ ap (λ (m : ℕ). mostFrom (c .before .args .file .now) m 0) (less-none (c .before .args .passes)))
 
 module _ (c : tie.In-loop Inv-loop μ-loop) where
   abbrev start : tie.Start Inv-loop μ-loop

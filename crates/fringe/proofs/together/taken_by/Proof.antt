@@ -10,13 +10,14 @@ use Rattle.whole.specs.declared.Number.{Number}
 use Rattle.whole.proofs.Linear.{ret}
 use Rattle.fields.specs.declared.Pass.{Pass}
 use Rattle.fields.specs.Records.{InPass}
+use Rattle.session.specs.Records.{passOf}
 use Rattle.session.proofs.Laws.{pass-in}
 use Rattle.delay.specs.Keeping.{lacksOf}
-use Rattle.delay.proofs.Numbers.{lacks-number}
+use Rattle.delay.proofs.Numbers.{lacks-number, lacks-most}
 use Rattle.track.specs.Answer.{Outcome}
 use Rattle.fringe.specs.PassTrack.{passNumber, passOutcome}
 use Rattle.fringe.specs.Sharing.{mostOf, takenBy, segmentsIn}
-use Rattle.fringe.proofs.Passes.{size-pos, at-most, lent-number, lent-count}
+use Rattle.fringe.proofs.Passes.{size-pos, lent-number, lent-count}
 use Rattle.fringe.proofs.together.taken_by.Statement.{statement}
 use Rattle.fringe.proofs.together.taken_by.Tie as tie
 
@@ -82,7 +83,7 @@ returns-2 c =
     ∙ ap ∣_∣ (ret (t .track-in .result .refusal) (c .before .before .before .struct-told .given .0 .1) ∙ ap (λ (n : Number). n .refusal) answer ∙ lent-number f (s .pre .0) i (s .pre .1) room m)
     ∙ size-pos (passNumber f i) in (
       number,
-      rw number (at-most f i (s .pre .0) (s .pre .1)),
+      rw (number, lacks-number f i 4096 (s .pre .0) (s .pre .1)) (lacks-most f (passOf f i) 4096),
       λ z. c .size2 .ensures
           ∙ ap ∣_∣ (ret (t .track-in .result .value) (c .before .struct-told2 .given .1 .0 .1) ∙ ap (λ (n : Number). n .value) answer ∙ lent-count f (s .pre .0) i (s .pre .1) room m (sym number ∙ z))
           ∙ size-pos (segmentsIn f i)
