@@ -8,8 +8,8 @@ use lib.Signed.{leZ}
 use Rattle.whole.specs.Each.{allBelow}
 use Rattle.whole.specs.Whole.{∣_∣}
 use Rattle.whole.proofs.Linear.{no-ft}
-use Rattle.sections.specs.File.{eqZ}
-use Rattle.sections.proofs.Numbers.{eqZ-true, eqZ-refl}
+use Rattle.whole.specs.Ranges.{eqZ}
+use Rattle.whole.proofs.Order.{eqZ-true, eqZ-refl}
 use Rattle.session.specs.Records.{checkOf}
 use Rattle.program.specs.Endings.{passAnswered, allAnswered}
 

@@ -5,7 +5,7 @@ use mathlib.Core.List.{List}
 use lib.IntN.{pos}
 use Rattle.whole.specs.Each.{allBelow}
 use Rattle.whole.specs.Whole.{∣_∣}
-use Rattle.sections.specs.File.{eqZ}
+use Rattle.whole.specs.Ranges.{eqZ}
 use Rattle.session.specs.Records.{checkOf}
 use Rattle.lines.specs.Text.{lentOutcome}
 

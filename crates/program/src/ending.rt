@@ -5,7 +5,7 @@ ghost use mathlib.Core.Bool.{_||_, not};
 ghost use Prim.Native.Nat.{_≤_};
 ghost use lib.IntN.{pos};
 ghost use Rattle.whole.specs.Each.{allBelow};
-ghost use Rattle.sections.specs.File.{eqZ};
+ghost use Rattle.whole.specs.Ranges.{eqZ};
 ghost use Rattle.program.specs.Endings.{passAnswered, statusBy};
 ghost use Rattle.explain.specs.Numbers.{Numbers};
 use explain::say::say;

@@ -10,31 +10,10 @@ use mir.Syntax.{w64}
 use mir.Val.{SFits}
 use Rattle.whole.specs.Whole.{posPart, negPart}
 use Rattle.whole.proofs.Linear.{add-law, sub-lawℤ, leZ-true, leZ-false, ⇒leZ, ⇒ltZ, ⇒eq, fits-posPart, fits-negPart, ⇒sfits, and-true}
-use Rattle.sections.specs.File.{eqZ, steps}
+use Rattle.whole.specs.Ranges.{eqZ}
+use Rattle.sections.specs.File.{steps}
+use Rattle.whole.proofs.Order.{not-so, le-yes, le-no, lt-yes}
 use Rattle.whole.proofs.Tests.{is-true, and-yes, same-test}
-
-pub le-yes : (a b : ℤ) → posPart a + negPart b ≤ posPart b + negPart a → leZ a b ≡ true
-le-yes a b h = is-true (leZ a b) (⇒leZ a b h)
-
-le-no′ : (t : Bool) → (t ≡ true → ⊥) → t ≡ false
-le-no′ true h = absurd (h refl)
-le-no′ false h = refl
-
-pub le-no : (a b : ℤ) → posPart b + negPart a < posPart a + negPart b → leZ a b ≡ false
-le-no a b h = le-no′ (leZ a b) (λ e. let k = leZ-true a b e in omega arith)
-
-pub lt-yes : (a b : ℤ) → posPart a + negPart b < posPart b + negPart a → ltZ a b ≡ true
-lt-yes a b h = is-true (ltZ a b) (⇒ltZ a b h)
-
-pub eqZ-true : (a b : ℤ) → eqZ a b ≡ true → a ≡ b
-eqZ-true a b h =
-    let w = and-true (leZ a b) (leZ b a) h in
-    let x = leZ-true a b (w .0) in
-    let y = leZ-true b a (w .1) in
-    ⇒eq a b (omega arith)
-
-pub eqZ-refl : (a b : ℤ) → a ≡ b → eqZ a b ≡ true
-eqZ-refl a b e = rw e (and-yes (le-yes b b (omega arith)) (le-yes b b (omega arith)))
 
 -- ---- b is the number after a
 
@@ -43,7 +22,7 @@ module _ (a b : ℤ) where
   next-no h =
       let x = leZ-true b a h in
       let y = add-law a (pos 1) in
-      le-no′ (eqZ b (a +ℤ pos 1)) (λ e. let z = leZ-true (a +ℤ pos 1) b (and-true (leZ b (a +ℤ pos 1)) _ e .1) in omega arith)
+      not-so (eqZ b (a +ℤ pos 1)) (λ e. let z = leZ-true (a +ℤ pos 1) b (and-true (leZ b (a +ℤ pos 1)) _ e .1) in omega arith)
 
   module _ (h : leZ b a ≡ false) where
     pub next-fits : SFits w64 a → SFits w64 b → SFits w64 (b -ℤ pos 1)

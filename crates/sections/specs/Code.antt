@@ -10,7 +10,8 @@ use Rattle.text.specs.Words.{numberAt}
 use Rattle.sections.specs.declared.layouts.Shape.{Shape}
 use Rattle.fields.specs.declared.ranges.Range.{Range}
 use Rattle.sections.specs.Layouts.{Layout}
-use Rattle.sections.specs.File.{steps, eqZ}
+use Rattle.whole.specs.Ranges.{eqZ}
+use Rattle.sections.specs.File.{steps}
 
 -- ---- a layout as the code holds it
 

@@ -5,9 +5,10 @@ use mathlib.Core.Bool.{Bool, _&&_}
 use mathlib.Core.List.{List, [], _∷_}
 use lib.ListN.{length, getD}
 use lib.IntN.{ℤ, pos, _+ℤ_}
-use lib.Signed.{leZ, ltZ}
+use lib.Signed.{ltZ}
 use lib.Dec.{leb, eqb}
 use Rattle.whole.specs.Each.{allBelow, implies}
+use Rattle.whole.specs.Ranges.{eqZ}
 use Rattle.whole.specs.Refusals.{unless, lowest}
 use Rattle.text.specs.Words.{numberAt, word}
 use Rattle.fields.specs.declared.ranges.Range.{Range}
@@ -43,10 +44,6 @@ between low high n = leb low n && leb n high
 -- the range of field k of a layout
 abbrev pub rangeOf : Layout → ℕ → Range
 rangeOf l k = getD (l .fields) k (range 0 0)
-
--- a is b
-abbrev pub eqZ : ℤ → ℤ → Bool
-eqZ a b = leZ a b && leZ b a
 
 -- b may stand behind a: where the order is to rise it is the greater, where it is to be consecutive the next number
 unfoldable pub steps : ℕ → ℤ → ℤ → Bool

@@ -20,11 +20,12 @@ use Rattle.fields.specs.Ranges.{Holds, inside}
 use Rattle.fields.specs.Records.{numberIn}
 use Rattle.fields.proofs.Inside.{inside-holds}
 use Rattle.sections.specs.Layouts.{Layout, Table, places, layoutsIn, rising, consecutive}
-use Rattle.sections.specs.File.{present, kindOf, layoutOf, sizeOf, rangeOf, firstByte, countOf, recordByte, fieldAt, eqZ, countRight, rangesRight, sectionRight, recordRight, fieldRight, refusalOf}
+use Rattle.whole.specs.Ranges.{eqZ}
+use Rattle.sections.specs.File.{present, kindOf, layoutOf, sizeOf, rangeOf, firstByte, countOf, recordByte, fieldAt, countRight, rangesRight, sectionRight, recordRight, fieldRight, refusalOf}
 use Rattle.sections.specs.Rows.{rowOf}
 use Rattle.sections.specs.Code.{otherBy}
 use Rattle.sections.proofs.Shapes.{allOf, listed, today}
-use Rattle.sections.proofs.Numbers.{eqZ-true}
+use Rattle.whole.proofs.Order.{eqZ-true}
 use Rattle.sections.proofs.Sound.{kind-stands, count-is-right, size-one}
 use Rattle.sections.proofs.Accepted.{accepted-contents, accepted-ranges}
 use Rattle.session.specs.Records.{placeBy}

@@ -19,9 +19,12 @@ use Rattle.whole.proofs.Each.{below-each, first-hit, all-none, below-all, first
 use Rattle.fields.specs.Ranges.{idNumber, coordinate, rightAscension, declination, mjd, pole, ut1utc, taiutc, millisecond, step, samples, tolerance}
 use Rattle.fields.specs.Records.{InStation, InSource, InDay, InPass, stationFrom, sourceFrom, dayFrom, passFrom}
 use Rattle.sections.specs.Layouts.{places, layoutsIn, rising, consecutive}
-use Rattle.sections.specs.File.{refusalOf, countOf, layoutOf, fieldAt, eqZ, steps, stepRight, orderRight}
+use Rattle.whole.specs.Ranges.{eqZ}
+use Rattle.sections.specs.File.{refusalOf, countOf, layoutOf, fieldAt, steps, stepRight, orderRight}
 use Rattle.sections.proofs.Shapes.{allOf, today}
-use Rattle.sections.proofs.Numbers.{steps-rising, steps-consecutive, eqZ-true, eqZ-refl, lt-yes}
+use Rattle.whole.proofs.Order.{eqZ-true, eqZ-refl}
+use Rattle.whole.proofs.Order.{lt-yes}
+use Rattle.sections.proofs.Numbers.{steps-rising, steps-consecutive}
 use Rattle.sections.proofs.Sound.{counts-one}
 use Rattle.sections.proofs.Accepted.{accepted-contents, accepted-ids, accepted-days}
 use Rattle.session.specs.Records.{stationOf, sourceOf, dayOf, passOf, placeBy}

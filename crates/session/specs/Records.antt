@@ -13,7 +13,8 @@ use Rattle.fields.specs.declared.Day.{Day}
 use Rattle.fields.specs.declared.Pass.{Pass}
 use Rattle.fields.specs.Records.{stationFrom, sourceFrom, dayFrom, passFrom}
 use Rattle.sections.specs.Layouts.{places}
-use Rattle.sections.specs.File.{refusalOf, countOf, fieldAt, eqZ}
+use Rattle.whole.specs.Ranges.{eqZ}
+use Rattle.sections.specs.File.{refusalOf, countOf, fieldAt}
 use Rattle.sections.specs.Rows.{rowOf}
 use Rattle.session.specs.declared.Counts.{Counts}
 use Rattle.session.specs.declared.StationAnswer.{StationAnswer}

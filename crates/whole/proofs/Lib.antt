@@ -4,6 +4,7 @@ pub mod Each
 pub mod Far
 pub mod Linear
 pub mod Machine
+pub mod Order
 pub mod Products
 pub mod Quote
 pub mod Rounding

@@ -1,15 +1,15 @@
 -- Laws of `firstValues`: the values of a rule, and such values written one after another from the start of a room. Assumes nothing.
 use mathlib.Core.Path.{_≡_, refl, sym, ap, ap₂, _∙_}
 use mathlib.Core.List.{List, [], _∷_, _++_, append-assoc, append-nil}
-use Prim.Native.Nat.{ℕ, zero, suc, _+_, _≤_, _<_}
-use native.Mathlib.Nat.{add-zero, add-suc, not-suc-le-zero, le-of-suc-le-suc}
+use Prim.Native.Nat.{ℕ, zero, suc, _+_, _*_, _≤_, _<_}
+use native.Mathlib.Nat.{mul-zero, add-zero, add-suc, not-suc-le-zero, le-of-suc-le-suc}
 use native.Mathlib.Omega.{arith}
 use native.Mathlib.Decide.{ℕ-discrete}
 use lib.Arith.{lt-of-le-ne}
 use lib.ListN.{length, drop, getD, set, length-append, length-drop, List·getD-append}
 use lib.Seq.{drop-cons, getD-append-add, set-at}
 use lib.IntN.{ℤ, pos}
-use Rattle.whole.specs.Values.{firstValues}
+use Rattle.whole.specs.Values.{firstValues, joined}
 
 pub values-long : (n : ℕ) (f : ℕ → ℤ) → length (firstValues n f) ≡ n
 unfolding firstValues
@@ -65,3 +65,16 @@ value-next i f room h =
 -- value j of them
 pub sample-at : (n : ℕ) (f : ℕ → ℤ) (rest : List ℤ) (j : ℕ) → j < n → getD (firstValues n f ++ rest) j (pos 0) ≡ f j
 sample-at n f rest j h = List·getD-append (firstValues n f) rest (pos 0) j (rw (values-long n f) h) ∙ value-at n j f h
+
+-- ---- lists joined: how long they are, where each is as long
+
+pub joined-even : {A : Type 0} (f : ℕ → List A) (size n : ℕ) → ((i : ℕ) → length (f i) ≡ size) → length (joined n f) ≡ size * n
+unfolding joined
+joined-even f size zero e = sym (mul-zero size)
+joined-even f size (suc n) e = length-append (joined n f) (f n) ∙ omega (arith, joined-even f size n e, e n)
+
+-- lists that are the same
+pub joined-same : {A : Type 0} (f g : ℕ → List A) (n : ℕ) → ((i : ℕ) → i < n → f i ≡ g i) → joined n f ≡ joined n g
+unfolding joined
+joined-same f g zero e = refl
+joined-same f g (suc n) e = ap₂ (λ (x y : List _). x ++ y) (joined-same f g n (λ i l. e i (omega arith))) (e n (omega arith))

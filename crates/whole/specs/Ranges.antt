@@ -1,4 +1,4 @@
--- A range, lo ≤ z ≤ hi, as a test and as a fact.
+-- A range, lo ≤ z ≤ hi, as a test and as a fact; and the test whether two numbers are one.
 use Prim.Native.Nat.{_≤_}
 use mathlib.Core.Bool.{Bool, _&&_}
 use lib.IntN.{ℤ}
@@ -14,3 +14,7 @@ pub record In (lo hi z : ℤ) : Type 0 where
   pub p-lo : posPart lo ≤ posPart z
   pub p-hi : posPart z ≤ posPart hi
   pub n-hi : negPart hi ≤ negPart z
+
+-- a is b
+abbrev pub eqZ : ℤ → ℤ → Bool
+eqZ a b = leZ a b && leZ b a

@@ -20,9 +20,11 @@ use Rattle.sections.proofs.Shapes.{Good}
 use Rattle.sections.proofs.Accepted.{accepted-contents}
 use Rattle.sections.proofs.Sound.{five, kind-stands, count-is-right, first-is, length-is, size-one}
 use Rattle.writer.specs.declared.Kinds.{Kinds}
-use Rattle.writer.specs.Writing.{kindAt, listAt, sizeIn, startFor, joined, listRight, listsRight, entryFor, contentsFor, fileWords, fileOf}
+use Rattle.whole.specs.Values.{joined}
+use Rattle.writer.specs.Writing.{kindAt, listAt, sizeIn, startFor, listRight, listsRight, entryFor, contentsFor, fileWords, fileOf}
 use Rattle.writer.specs.Handed.{rowsIn}
-use Rattle.writer.proofs.Runs.{Run, run-both, run-joined, values-run, run-whole, joined-even}
+use Rattle.whole.proofs.Values.{joined-even}
+use Rattle.writer.proofs.Runs.{Run, run-both, run-joined, values-run, run-whole}
 use Rattle.writer.proofs.Rows.{rows-long, rows-values}
 use Rattle.writer.proofs.Longest.{bodies, start-is, words-long}
 

@@ -22,10 +22,11 @@ use Rattle.session.specs.declared.Counts.{Counts}
 use Rattle.session.specs.Records.{checkOf, countsIn, stationOf, sourceOf, dayOf, passOf}
 use Rattle.session.proofs.Fields.{row-number}
 use Rattle.session.proofs.Answers.{check-number, check-accepted, asked-there, station-yes, source-yes, day-yes, pass-yes}
-use Rattle.writer.specs.Writing.{joined, kindAt, sizeIn, kinds}
+use Rattle.whole.specs.Values.{joined}
+use Rattle.writer.specs.Writing.{kindAt, sizeIn, kinds}
 use Rattle.writer.specs.Handed.{rowsIn, ofStation, ofSource, ofDay, ofPass, stationsIn, sourcesIn, daysIn, passesIn}
 use Rattle.writer.specs.Round.{ReadBackAs, ReadBack, WrittenBack}
-use Rattle.writer.proofs.Runs.{joined-same}
+use Rattle.whole.proofs.Values.{joined-same}
 use Rattle.writer.proofs.RoundTrips.{each-place, written-as}
 
 -- ---- the records handed out of a file that has the kinds that `write` gives

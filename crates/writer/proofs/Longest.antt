@@ -17,7 +17,8 @@ use Rattle.text.proofs.All.{all-long}
 use Rattle.sections.specs.Layouts.{Layout, Table, places, noLayout, ofKind, layoutsIn, layoutIn}
 use Rattle.sections.proofs.Shapes.{today}
 use Rattle.writer.specs.declared.Kinds.{Kinds}
-use Rattle.writer.specs.Writing.{joined, kindAt, listAt, startFor, sizeIn, listsRight, contentsFor, fileWords, fileOf}
+use Rattle.whole.specs.Values.{joined}
+use Rattle.writer.specs.Writing.{kindAt, listAt, startFor, sizeIn, listsRight, contentsFor, fileWords, fileOf}
 use Rattle.writer.proofs.Counts.{ListRight, lists-right}
 
 -- ---- the file's length

@@ -18,10 +18,12 @@ use Rattle.sections.specs.File.{present, kindOf, firstByte, countOf, sizeOf, st
 use Rattle.sections.proofs.Shapes.{Good, today}
 use Rattle.sections.proofs.Accepted.{in-turn}
 use Rattle.writer.specs.declared.Kinds.{Kinds}
-use Rattle.writer.specs.Writing.{kindAt, listAt, sizeIn, startFor, joined, listsRight, entryFor, contentsFor, fileWords, fileOf, writeRefusal}
+use Rattle.whole.specs.Values.{joined}
+use Rattle.writer.specs.Writing.{kindAt, listAt, sizeIn, startFor, listsRight, entryFor, contentsFor, fileWords, fileOf, writeRefusal}
 use Rattle.writer.specs.Handed.{rowsIn}
 use Rattle.writer.specs.Round.{Longs}
-use Rattle.writer.proofs.Runs.{Run, run-first, run-second, run-part, run-values, run-made, joined-even}
+use Rattle.whole.proofs.Values.{joined-even}
+use Rattle.writer.proofs.Runs.{Run, run-first, run-second, run-part, run-values, run-made}
 use Rattle.writer.proofs.Counts.{lists-right}
 use Rattle.writer.proofs.Longest.{bodies, start-is, contents-long, made-long, made-short}
 use Rattle.writer.proofs.Outcomes.{by-turn}

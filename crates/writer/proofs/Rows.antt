@@ -13,9 +13,9 @@ use Rattle.whole.proofs.Values.{values-long, values-same, values-join}
 use Rattle.text.specs.Words.{bitsAt, word}
 use Rattle.sections.specs.Layouts.{Table}
 use Rattle.sections.specs.File.{countOf, sizeOf, firstByte, recordByte, fieldAt}
-use Rattle.writer.specs.Writing.{joined}
+use Rattle.whole.specs.Values.{joined}
 use Rattle.writer.specs.Handed.{rowsIn}
-use Rattle.writer.proofs.Runs.{joined-even}
+use Rattle.whole.proofs.Values.{joined-even}
 
 -- records of size numbers each, one after the other
 joined-values : (size n : ℕ) (f : ℕ → List ℤ) (g : ℕ → ℤ) → ((i : ℕ) → f i ≡ firstValues size (λ (k : ℕ). g (size * i + k))) → joined n f ≡ firstValues (size * n) g

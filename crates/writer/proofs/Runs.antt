@@ -18,7 +18,7 @@ use Rattle.text.proofs.Numbers.{numbersOf, Bytes}
 use Rattle.text.proofs.All.{numbers-back, bytes-back}
 use Rattle.whole.specs.Values.{firstValues}
 use Rattle.whole.proofs.Values.{values-long, value-at}
-use Rattle.writer.specs.Writing.{joined}
+use Rattle.whole.specs.Values.{joined}
 use Rattle.writer.specs.Round.{Longs}
 
 -- the words x stand in s from word at on
@@ -109,16 +109,3 @@ pub run-whole : (s ws : List ℕ) → Bytes s → length s ≡ 8 * length ws →
 run-whole s ws b e h =
     ap bytesOfAll (ext-getD 0 ws (numbersOf (length ws) s) (sym (numbers-long (length ws) s)) (λ j l. h j l ∙ ap (word s) (zero-add j) ∙ sym (word-is (length ws) s j l)))
     ∙ bytes-back (length ws) s b e
-
--- ---- lists joined: how long they are, where each is as long
-
-pub joined-even : {A : Type 0} (f : ℕ → List A) (size n : ℕ) → ((i : ℕ) → length (f i) ≡ size) → length (joined n f) ≡ size * n
-unfolding joined
-joined-even f size zero e = sym (mul-zero size)
-joined-even f size (suc n) e = length-append (joined n f) (f n) ∙ omega (arith, joined-even f size n e, e n)
-
--- lists that are the same
-pub joined-same : {A : Type 0} (f g : ℕ → List A) (n : ℕ) → ((i : ℕ) → i < n → f i ≡ g i) → joined n f ≡ joined n g
-unfolding joined
-joined-same f g zero e = refl
-joined-same f g (suc n) e = ap₂ (λ (x y : List _). x ++ y) (joined-same f g n (λ i l. e i (omega arith))) (e n (omega arith))

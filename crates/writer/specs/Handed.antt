@@ -10,7 +10,7 @@ use Rattle.session.specs.declared.StationAnswer.{StationAnswer}
 use Rattle.session.specs.declared.SourceAnswer.{SourceAnswer}
 use Rattle.session.specs.declared.DayAnswer.{DayAnswer}
 use Rattle.session.specs.declared.PassAnswer.{PassAnswer}
-use Rattle.writer.specs.Writing.{joined}
+use Rattle.whole.specs.Values.{joined}
 
 -- the records of place p, of any kind: as many numbers of each as its kind has
 unfoldable pub rowsIn : Table → List ℕ → ℕ → List ℤ

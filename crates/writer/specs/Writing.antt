@@ -7,6 +7,7 @@ use lib.ListN.{length, getD}
 use lib.IntN.{ℤ, pos}
 use lib.Dec.{leb, eqb}
 use Rattle.whole.specs.Each.{allBelow}
+use Rattle.whole.specs.Values.{joined}
 use Rattle.whole.specs.Refusals.{unless, lowest}
 use Rattle.whole.specs.Answers.{answerBy}
 use Rattle.whole.specs.declared.Number.{Number}
@@ -21,11 +22,6 @@ kindAt k p = getD (k .first ∷ k .second ∷ k .third ∷ k .fourth ∷ []) p 0
 
 abbrev pub listAt : List (List ℤ) → ℕ → List ℤ
 listAt ls p = getD ls p []
-
--- the lists f 0 to f (n - 1), one after the other
-unfoldable pub joined : {A : Type 0} → ℕ → (ℕ → List A) → List A
-joined zero f = []
-joined (suc n) f = joined n f ++ f n
 
 -- where the body of place p starts: behind the contents table, and behind the lists before it
 unfoldable pub startFor : List (List ℤ) → ℕ → ℕ

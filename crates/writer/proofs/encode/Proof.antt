@@ -8,7 +8,8 @@ use mir.Val.{ofZ}
 use Rattle.text.specs.Bytes.{bytesOfAll, wordsOf, pasted}
 use Rattle.text.proofs.Paste.{more}
 use Rattle.sections.specs.Layouts.{places}
-use Rattle.writer.specs.Writing.{startFor, joined, contentsFor, fileWords, fileOf}
+use Rattle.whole.specs.Values.{joined}
+use Rattle.writer.specs.Writing.{startFor, contentsFor, fileWords, fileOf}
 use Rattle.writer.proofs.Longest.{contents-long, made-long, made-fits}
 use borrow.Author.Needs.{needs}
 use Rattle.writer.proofs.encode.Statement.{statement}

@@ -7,8 +7,8 @@ use mir.Syntax.{w64}
 use mir.Val.{ofZ}
 use Rattle.whole.proofs.Linear.{bits-eq}
 use Rattle.whole.proofs.Tests.{same-test}
-use Rattle.sections.specs.File.{eqZ}
-use Rattle.sections.proofs.Numbers.{eqZ-true, eqZ-refl}
+use Rattle.whole.specs.Ranges.{eqZ}
+use Rattle.whole.proofs.Order.{eqZ-true, eqZ-refl}
 use Rattle.program.proofs.ending.answered.Statement.{statement}
 use Rattle.program.proofs.ending.answered.Tie as tie
 

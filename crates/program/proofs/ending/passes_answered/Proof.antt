@@ -10,7 +10,7 @@ use Rattle.whole.specs.Each.{allBelow}
 use Rattle.whole.proofs.Each.{below-next, below-fails, below-all}
 use Rattle.whole.proofs.Linear.{ret}
 use Rattle.whole.proofs.Tests.{failed, passed}
-use Rattle.sections.specs.File.{eqZ}
+use Rattle.whole.specs.Ranges.{eqZ}
 use Rattle.program.specs.Endings.{passAnswered}
 use Rattle.program.proofs.ending.passes_answered.Statement.{statement}
 use Rattle.program.proofs.ending.passes_answered.Tie as tie

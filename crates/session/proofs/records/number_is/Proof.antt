@@ -4,9 +4,9 @@ use mir.Syntax.{w64}
 use mir.Val.{ofZ}
 use Rattle.whole.proofs.Linear.{bits-eq}
 use Rattle.whole.proofs.Tests.{same-test}
-use Rattle.sections.specs.File.{eqZ}
+use Rattle.whole.specs.Ranges.{eqZ}
 use Rattle.text.specs.Words.{numberAt}
-use Rattle.sections.proofs.Numbers.{eqZ-true, eqZ-refl}
+use Rattle.whole.proofs.Order.{eqZ-true, eqZ-refl}
 use borrow.Author.Needs.{needs}
 use Rattle.session.proofs.records.number_is.Statement.{statement}
 use Rattle.session.proofs.records.number_is.Tie as tie

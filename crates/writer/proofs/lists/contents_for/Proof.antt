@@ -3,7 +3,8 @@ use mathlib.Core.List.{[], _∷_}
 use Prim.Native.Nat.{_+_, _*_}
 use lib.ListN.{length}
 use Rattle.sections.proofs.Shapes.{today}
-use Rattle.writer.specs.Writing.{startFor, joined, contentsFor}
+use Rattle.whole.specs.Values.{joined}
+use Rattle.writer.specs.Writing.{startFor, contentsFor}
 use Rattle.writer.proofs.Counts.{lists-right}
 use Rattle.writer.proofs.Longest.{lists-short}
 use borrow.Author.Needs.{needs}
