@@ -61,7 +61,7 @@ module _ (F : ℕ → Type 0) (one : (n : ℕ) → n < 10 → F n) (more : (n : 
 
 -- ---- the digits say the number
 
-read-append : (n : ℕ) (ds es : List ℕ) → readFrom n (ds ++ es) ≡ readFrom (readFrom n ds) es
+pub read-append : (n : ℕ) (ds es : List ℕ) → readFrom n (ds ++ es) ≡ readFrom (readFrom n ds) es
 unfolding readFrom
 read-append n [] es = refl
 read-append n (d ∷ ds) es = read-append (10 * n + (d - 48)) ds es

@@ -47,6 +47,10 @@ next-below n d i h k = rw add-one (omega arith)
 pub below-most : (n i : ℕ) → n < 10 ^ i → i ≤ 19 → n < 10_000_000_000_000_000_000
 below-most n i h k = omega (arith, pow-le-pow-right {n = 10} (omega arith) k)
 
+-- 0 has no digit, so that any number may follow
+pub zero-below : (i : ℕ) → 0 < 10 ^ i
+zero-below i = omega (arith, pow-le-pow-right {n = 10} (omega arith) {i = 0} {j = i} (omega arith))
+
 -- ---- what is written is read back
 
 all-append : (ds es : List ℕ) → allDigits ds ≡ true → allDigits es ≡ true → allDigits (ds ++ es) ≡ true

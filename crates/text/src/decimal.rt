@@ -2,9 +2,9 @@
 ghost use mathlib.Core.Path.{_≡_};
 ghost use mathlib.Core.Bool.{true};
 ghost use mathlib.Core.List.{_∷_, [], _++_};
-ghost use Prim.Native.Nat.{_+_, _≤_};
+ghost use Prim.Native.Nat.{_+_, _-_, _^_, _<_, _≤_};
 ghost use lib.ListN.{length};
-ghost use Rattle.text.specs.Decimal.{digitsOf, decimal, isDigit, allDigits, read};
+ghost use Rattle.text.specs.Decimal.{digitsOf, decimal, isDigit, allDigits, readFrom, read};
 ghost use Rattle.text.specs.Put.{Put};
 use crate::bytes::copy;
 use whole::sign::size;
@@ -102,16 +102,24 @@ pub fn all_digits(s: &[u8]) -> bool
     true
 }
 
+// The number that digits say behind those of n. Of 19 in all every one fits.
+pub fn read_on(n: u64, s: &[u8]) -> u64
+    requires { ⌜ (allDigits (now s) ≡ true) × (length (now s) ≤ 19) × (n < 10 ^ (19 - length (now s))) ⌝ }
+    ensures { λ r. ⌜ r ≡ readFrom n (now (s .entry)) ⌝ }
+{
+    let mut all = n;
+    let mut i: usize = 0;
+    while i < s.len() {
+        all = 10 * all + (s[i] - 48) as u64;
+        i += 1;
+    }
+    all
+}
+
 // The number that digits say. Of 19 every one fits.
 pub fn read_natural(s: &[u8]) -> u64
     requires { ⌜ (allDigits (now s) ≡ true) × (length (now s) ≤ 19) ⌝ }
     ensures { λ r. ⌜ r ≡ read (now (s .entry)) ⌝ }
 {
-    let mut n: u64 = 0;
-    let mut i: usize = 0;
-    while i < s.len() {
-        n = 10 * n + (s[i] - 48) as u64;
-        i += 1;
-    }
-    n
+    read_on(0, s)
 }

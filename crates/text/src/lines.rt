@@ -5,7 +5,7 @@ ghost use lib.ListN.{length, drop};
 ghost use Rattle.text.specs.Lines.{firstLine, pastLine, lineOf};
 
 // Where the line that starts at `at` ends: at its line feed, or at the end of the text.
-fn line_end(s: &[u8], at: usize) -> usize
+pub fn line_end(s: &[u8], at: usize) -> usize
     requires { ⌜ at ≤ length (now s) ⌝ }
     ensures { λ r. ⌜ r ≡ at + length (firstLine (drop at (now (s .entry)))) ⌝ }
 {
