@@ -66,7 +66,7 @@ unfolding readFrom
 read-append n [] es = refl
 read-append n (d ∷ ds) es = read-append (10 * n + (d - 48)) ds es
 
-read-one : (n d : ℕ) → readFrom n ((48 + d) ∷ []) ≡ 10 * n + d
+pub read-one : (n d : ℕ) → readFrom n ((48 + d) ∷ []) ≡ 10 * n + d
 unfolding readFrom
 read-one n d = omega arith
 

@@ -53,12 +53,12 @@ zero-below i = omega (arith, pow-le-pow-right {n = 10} (omega arith) {i = 0} {j 
 
 -- ---- what is written is read back
 
-all-append : (ds es : List ℕ) → allDigits ds ≡ true → allDigits es ≡ true → allDigits (ds ++ es) ≡ true
+pub all-append : (ds es : List ℕ) → allDigits ds ≡ true → allDigits es ≡ true → allDigits (ds ++ es) ≡ true
 unfolding allDigits
 all-append [] es p q = q
 all-append (d ∷ ds) es p q = let r = and-true (isDigit d) (allDigits ds) p in and-yes (r .0) (all-append ds es (r .1) q)
 
-all-one : (d : ℕ) → d < 10 → allDigits ((48 + d) ∷ []) ≡ true
+pub all-one : (d : ℕ) → d < 10 → allDigits ((48 + d) ∷ []) ≡ true
 unfolding allDigits
 all-one d h = and-yes (and-yes (le-leb 48 (48 + d) (omega arith)) (le-leb (48 + d) 57 (omega arith))) refl
 
