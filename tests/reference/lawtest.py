@@ -2,13 +2,14 @@
 
 import random
 from fractions import Fraction
-from itertools import islice
+from itertools import islice, product
 
+from inputs.rows import FIELDS, READ, flat, some_case, some_records, some_row, text_in, text_of
 from inputs.sharing import most_segments
 from inputs.sound import some_session
 from tally import alone
 
-from . import delay, earth, session, together, track
+from . import bulletin, delay, earth, session, together, track
 from .sine import ONE, TURN, S, sine
 from .whole import R
 
@@ -228,14 +229,68 @@ def passes_together(tally, random):
             tally.nothing_wrong("all passes of session %d in %d:" % (i, numbers), wrong)
 
 
+def short_decimals(tally):
+    """Of all texts of five columns those that document 02, L3, lets be decimals with one digit behind the point."""
+    heads = [blanks + sign for blanks in ("", " ", "  ") for sign in ("", "-")]
+    made = {head + "".join(digits) for head in heads for count in (2, 3, 4) for digits in product("07", repeat=count)}
+    wanted = {text[:-1] + "." + text[-1] for text in made if len(text) == 4}
+    texts = ("".join(text) for text in product(" -+07.", repeat=5))
+    got = {text for text in texts if bulletin.decimal_of(text.encode(), 1, 5, 1) is not None}
+    tally.equal("decimals of five columns", sorted(got), sorted(wanted))
+
+
+def decimals_read(tally, random):
+    """What is read of a row is the number that stands there."""
+    for _ in range(200):
+        row = some_row(random, random.randint(-9_999, 99_999))
+        stands = [Fraction(text_in(row, field).decode()) for field in FIELDS]
+        read = zip((bulletin.day_of(row), *bulletin.values_of(row)), (1, 10**6, 10**6, 10**9))
+        tally.equal("what is read of %r" % row[:68], [Fraction(value, unit) for value, unit in read], stands)
+
+
+def wrong_rows(records, room):
+    """Document 02, L3: rows of 185 columns with four decimals, blank beside them, that read back as the same records."""
+    days, need = flat(records), 186 * len(records)
+    number, written, after = bulletin.rows_from_days(days, room)
+    rows = bulletin.rows_of(after[:written])
+    beside = {bytes(byte for column, byte in enumerate(row, 1) if column not in READ) for row in rows}
+    again = bulletin.days_from_rows(after[:written], days[0], len(records), days[4::5])
+    yield "" if (number, written) == ((0, need) if need <= len(room) else (7, 0)) else "refused with %d" % number
+    yield "" if after[written:] == room[written:] else "behind the rows the room is touched"
+    yield "" if number or [len(row) for row in rows] == [185] * len(records) else "it is not in rows of 185 columns"
+    yield "" if beside <= {b" " * 149} else "columns beside the decimals are not blank"
+    yield "" if number or again == (0, *days, *[0] * (320 - len(days))) else "it does not read back"
+
+
+def rows_written(tally, random):
+    """A list of records in a room is one test."""
+    for i in range(100):
+        records = some_records(random, random.choice((2, 3, 10, 64)), consecutive=True)
+        room = b"?" * (186 * len(records) + random.choice((0, 0, 1, 500, -1)))
+        tally.nothing_wrong("list %d of %d records:" % (i, len(records)), wrong_rows(records, room))
+
+
+def unasked_rows(tally, random):
+    """Rows of other days, bytes behind the last line feed, and further rows of a day do not move an answer."""
+    for _ in range(100):
+        case = some_case(random)
+        other = some_row(random, random.choice((-1, 0, 99_999, case.first - 1, case.first + case.count)))
+        more = case._replace(rows=(other, *case.rows, some_row(random, case.first)), rest=other[:-1])
+        answers = [bulletin.days_from_rows(text_of(each), *each[1:4]) for each in (case, more)]
+        tally.equal("the same of more rows, %d of %d" % (case.count, case.first), answers[1], answers[0])
+
+
 def run(tally):
     numbers = random.Random(20_101)
     rounding(tally)
     tide_bound(tally)
     long_tracks(tally)
+    short_decimals(tally)
     for part in (sine_near_its_sum, sine_turned, angle_near_its_fraction):
         part(tally, numbers)
     for part in (swapped_stations, small_tracks, own_tracks_are_well_formed, passes_together):
+        part(tally, numbers)
+    for part in (decimals_read, rows_written, unasked_rows):
         part(tally, numbers)
 
 

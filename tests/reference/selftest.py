@@ -2,7 +2,7 @@
 
 from tally import alone
 
-from . import delay, earth, program, session, together, track
+from . import bulletin, delay, earth, program, session, together, track
 from .sine import sine
 
 
@@ -67,8 +67,24 @@ def the_program(tally):
     tally.equal("all tracks of the small session", together.all_tracks(file, [5] * 5), (0, [1] + [0] * 63, [0, 3, 0, 0, 5]))
 
 
+def rows(tally):
+    """Three published rows, their values typed by hand from the page; then the row that is written of the first."""
+    text = b"".join(row + b"\n" for row in (
+        b"16 2 1 57359.00 I -0.003225 0.000031  0.299494 0.000025  I 0.0262864 0.0000042  1.3154 0.0035  I    -0.094",
+        b"16 2 2 57360.00 I -0.004706 0.000030  0.301252 0.000024  I 0.0249911 0.0000057  1.2412 0.0034  I    -0.108",
+        b"16 728 57537.00 P  0.211431 0.008135  0.445716 0.011520  P-0.2231750 0.0085261",
+    ))
+    two = (57_359, -3_225, 299_494, 26_286_400, 36, 57_360, -4_706, 301_252, 24_991_100, 36)
+    tally.equal("two published days", bulletin.days_from_rows(text, 57_359, 2, [36, 36]), (0, *two, *[0] * 310))
+    tally.equal("a day that is not there", bulletin.days_from_rows(text, 57_360, 2, [36, 36]), (11, *[0] * 320))
+    predicted = bulletin.values_of(bulletin.rows_of(text)[2])
+    tally.equal("a published prediction", predicted, [211_431, 445_716, -223_175_000])
+    row = b"       57359.00   -0.003225           0.299494             0.0262864" + b" " * 117
+    tally.equal("a row that is written", bulletin.row_of(two[:5]), row)
+
+
 def run(tally):
-    for part in (sines, minutes_and_arguments, angles, tracks, the_program):
+    for part in (sines, minutes_and_arguments, angles, tracks, the_program, rows):
         part(tally)
 
 
