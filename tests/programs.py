@@ -6,6 +6,7 @@
 from functools import cache
 from multiprocessing import get_context
 
+import inputs.bulletin
 import inputs.delay
 import inputs.earth
 import inputs.lending
@@ -24,6 +25,7 @@ TOPICS = {
     "delay": inputs.delay,
     "track": inputs.track,
     "together": inputs.together,
+    "bulletin": inputs.bulletin,
 }
 
 PROGRAMS = ("answers", "tracks")

@@ -5,7 +5,7 @@
 #include <stdio.h>
 #include <string.h>
 
-#define MOST_LENT 65600
+#define MOST_LENT 66560
 #define MOST_NUMBERS 8200
 #define MOST_BYTES 16384
 

@@ -1,12 +1,14 @@
 """The inputs hold what the comparisons need: each refusal and each trap so often, and a fault at each place."""
 
 from collections import Counter
-from itertools import permutations, product
+from itertools import combinations, permutations, product
 
 import programs
 from reference import session
 
-from . import earth, features, sharing, short
+from . import earth, features, rowtraps, sharing, short
+from .questions import DAYS_FROM_ROWS
+from .rows import FIELDS, VALUES
 
 LEAST = {
     "files": 500,
@@ -36,6 +38,38 @@ TOGETHER = (
     *("ample from the first pass on", "ample from a later pass on", "never ample"),
     *("no room", "room for the first pass alone", "a segment short", "a number short", "just enough"),
     *("just ample", "a number short of ample", "numbers behind the last whole segment"),
+)
+
+# And of each of these in the questions on rows.
+ROWS_READ = (
+    *("read with %d" % number for number in (0, 1, 10, 11, 2)),
+    *("%d before %d" % pair for pair in combinations((1, 10, 11, 2), 2)),
+    *("%s in %s" % case for case in product(rowtraps.SHAPES, FIELDS)),
+    *("%s in %s" % case for case in product(rowtraps.ODD, VALUES)),
+    *("%s, %s" % case for case in product(rowtraps.SHAPES, rowtraps.ROLES)),
+    *("misprinted %s, %s" % case for case in product(VALUES, rowtraps.ROLES)),
+    *("a digit %s %s" % case for case in product(("before", "behind"), FIELDS)),
+    *("row ends in %s, %s" % case for case in (("MJD", "of no day"), *product(VALUES, rowtraps.ROLES))),
+    *("row ends behind %s" % field for field in FIELDS),
+    *("%s the end of %s%s" % case for case in product(("at", "beyond"), ("", "-"), VALUES)),
+    *("CR behind the columns", "CR in the columns", "CR amid a row", "empty row", "row longer than 185"),
+    *("days out of order", "negative MJD", "a fraction of a day", "more rows than days"),
+    *("two rows of a day", "two rows of a day that differ", "a sound row behind a misprinted one"),
+    *("no text", "352 full rows", "longest text", "a byte too long", "bytes behind the last line feed"),
+    *("a row behind the last line feed", "a missing day behind the last line feed"),
+    *("count %d" % count for count in (-1, 0, 1, 2, 64, 65)),
+    *("a count beyond 32 bits", "an end beyond 64 bits"),
+    *("first day 41,316", "first day 41,317", "last day 69,806", "last day 69,807"),
+    *("another number of TAI-UTC", "one TAI-UTC too few", "one TAI-UTC too many"),
+    *("TAI-UTC %d" % seconds for seconds in (-1, 0, 99, 100)),
+)
+ROWS_WRITTEN = (
+    *("written with %d" % number for number in (0, 2, 7)),
+    *("2 before 7", "no whole record at the end", "days that follow", "days that do not follow"),
+    *("no record", "one record", "two records", "64 records", "65 records"),
+    *("%s in field %d" % case for case in product(("low", "high", "too low", "too high"), range(5))),
+    *("UT1-UTC in parts of 100", "negative UT1-UTC in parts of 100"),
+    *("no room", "a row short", "a byte short", "just enough room", "room left"),
 )
 
 
@@ -81,6 +115,15 @@ def passes_together(tally):
     tally.nothing_wrong("enough of passes together", too_few(counts, dict.fromkeys(TOGETHER, 10)))
 
 
+def rows_read_and_written(tally):
+    """Of the texts there are 1,000, too."""
+    made = {question for question, _ in programs.questions("bulletin")}
+    counts = Counter(trap for question in made for trap in rowtraps.traps(question))
+    counts["texts"] = sum(question.what == DAYS_FROM_ROWS for question in made)
+    least = {"texts": 1_000, **dict.fromkeys((*ROWS_READ, *ROWS_WRITTEN), 10)}
+    tally.nothing_wrong("enough of rows", too_few(counts, least))
+
+
 def each_kind_of_answer(tally):
     """Each call is asked with an answer and with each number that the documents let it give, and gives no other."""
     counts = Counter(kind for _, kind in short.kinds(programs.all_questions()))
@@ -95,4 +138,5 @@ def run(tally):
     places_of_faults(tally)
     questions_of_earth(tally)
     passes_together(tally)
+    rows_read_and_written(tally)
     each_kind_of_answer(tally)

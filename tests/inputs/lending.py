@@ -2,9 +2,9 @@
 
 from reference.selftest import small_session
 
-from .questions import CHECK, FAULT, MOST_LENT, MOST_ROOM, PREDICT, WRITE, Question, lent_numbers
+from .questions import CHECK, DAYS_FROM_ROWS, FAULT, MOST_LENT, MOST_ROOM, PREDICT, WRITE, Question, lent_numbers
 
-NO_CALLS = (0, 22, -1, 2**63 - 1, -(2**63))
+NO_CALLS = (0, 24, -1, 2**63 - 1, -(2**63))
 TRACK_OF_ONE = lent_numbers([0, 1, 65_536, 0])
 
 
@@ -26,12 +26,14 @@ def rooms():
 
 
 def lists():
-    """Lists for the writer that take all numbers lent, or more than those."""
+    """Lists for the writer, and of TAI-UTC, that take all numbers lent, or more than those."""
     numbers = lent_numbers(range(20))
     whole = ((20, 0, 0), (0, 20, 0), (0, 0, 20))
     beyond = ((21, 0, 0), (10, 10, 1), (-1, 0, 0), (0, -1, 1), (1, 1, 2**63))
     for lengths in whole + beyond:
         yield Question(WRITE, *lengths, room=8, lent=numbers)
+    for length in (19, 20, 21, 2**63, -1):
+        yield from (Question(DAYS_FROM_ROWS, 60_000, length, length, lent=lent) for lent in (numbers, numbers + bytes(7)))
 
 
 def questions():

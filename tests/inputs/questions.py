@@ -10,21 +10,22 @@ import sys
 from typing import NamedTuple
 
 from lines import line
-from reference import delay, earth, session, together, track
+from reference import bulletin, delay, earth, session, together, track
 from reference.sine import cosine, sine
 
 SINE, COSINE, ARGUMENTS, TIDE, ANGLE, LATER, ROTATE = range(1, 8)
 CHECK, FAULT, STATION, SOURCE, DAY, PASS = range(8, 14)
 ORIENTATION, DELAY, SAMPLES, WRITE, TRACK, PREDICT, HOST, ALL_TRACKS = range(14, 22)
+DAYS_FROM_ROWS, ROWS_FROM_DAYS = range(22, 24)
 
 NAMES = dict(enumerate(
     "sine cosine arguments tide angle_at later rotate check fault station_at source_at day_at pass_at "
-    "orientation delay samples write track predict host_at all_tracks".split(), 1,
+    "orientation delay samples write track predict host_at all_tracks days_from_rows rows_from_days".split(), 1,
 ))
 
 HEAD_BYTES = 64
-MOST_LENT = 65_600
-MOST_ROOM = {SAMPLES: 8_200, TRACK: 8_200, WRITE: 16_384, ALL_TRACKS: 8_200}
+MOST_LENT = 66_560
+MOST_ROOM = {SAMPLES: 8_200, TRACK: 8_200, WRITE: 16_384, ALL_TRACKS: 8_200, ROWS_FROM_DAYS: 16_384}
 FILLED_NUMBER, FILLED_BYTE = 0x5555_5555_5555_5555, 165
 SAME_AS_BEFORE = -1
 
@@ -112,6 +113,16 @@ def all_tracks(q):
     return [line((number, *counts)), line(room)]
 
 
+def days_from_rows(q):
+    tai, text = q.lent[:8 * q.c], q.lent[8 * q.c:]
+    return [line(bulletin.days_from_rows(text, q.a, q.b, numbers_lent(tai)))]
+
+
+def rows_from_days(q):
+    number, count, room = bulletin.rows_from_days(numbers_lent(q.lent), bytes([FILLED_BYTE]) * q.room)
+    return [line((number, count)), room.hex()]
+
+
 def host(q):
     number, *doubles = track.host_at(numbers_lent(q.lent), index(q.a))
     return [line((number, *map(track.bits, doubles)))]
@@ -139,6 +150,8 @@ CALLS = {
     PREDICT: lambda q: [line(track.predict(numbers_lent(q.lent), index(q.a)))],
     HOST: host,
     ALL_TRACKS: all_tracks,
+    DAYS_FROM_ROWS: days_from_rows,
+    ROWS_FROM_DAYS: rows_from_days,
 }
 
 
@@ -146,7 +159,8 @@ def answered(q):
     """Whether a question is one of the calls, with a room and lists that `answers` takes."""
     if q.what in MOST_ROOM and index(q.room) > MOST_ROOM[q.what]:
         return False
-    if q.what == WRITE and sum(map(index, q[1:4])) > len(q.lent) // 8:
+    listed = {WRITE: q[1:4], DAYS_FROM_ROWS: [q.c]}.get(q.what, ())
+    if sum(map(index, listed)) > len(q.lent or b"") // 8:
         return False
     return q.what in CALLS
 

@@ -12,6 +12,7 @@ GIVEN = {
     "orientation": (1, 2, 3, 4, 6), "delay": (1, 2, 3, 4, 5, 6), "samples": (1, 2, 3, 4, 5, 6, 7),
     "write": (1, 2, 3, 4, 7),
     "track": (2, 8), "predict": (9,), "host_at": (9,), "all_tracks": (1, 2, 3, 4, 5, 6, 8),
+    "days_from_rows": (1, 2, 10, 11), "rows_from_days": (2, 7),
 }
 
 

@@ -12,7 +12,7 @@ from inputs.program import printed
 from inputs.questions import lines_of
 from tally import alone
 
-from . import delay, earth, program, session, together, track, write
+from . import bulletin, delay, earth, program, rowlists, session, together, track, write
 
 WRONG = {
     "earth": earth.WRONG,
@@ -21,6 +21,7 @@ WRONG = {
     "delay": delay.WRONG,
     "track": track.WRONG,
     "together": together.WRONG,
+    "bulletin": (*bulletin.WRONG, *rowlists.WRONG),
     "tracks": program.WRONG,
 }
 LONGEST_ROOM, LONGEST_TEXT = 2_100, 3_000

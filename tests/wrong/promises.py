@@ -12,7 +12,7 @@ import re
 from rattle import ROOT
 
 ARCHIVE = "erlensieg"
-CRATES = ["sine", "earth", "session", "writer", "delay", "track", "predict", "fringe", "program"]
+CRATES = ["bulletin", "sine", "earth", "session", "writer", "delay", "track", "predict", "fringe", "program"]
 CALL = re.compile(
     r'^pub (?:extern "C" )?fn (\w+)\([^{]*?\)(?: -> [^{]*?)?\n((?:    (?:ensures|requires) .*\n(?:        .*\n)*)*)\{',
     re.MULTILINE,

@@ -1,10 +1,11 @@
-// Questions on the lent bytes as whole numbers, 17 to 20. Those with a room are answered in rooms.rt.
+// Questions on the lent bytes as whole numbers, 17 to 20 and 23. Those with a room are answered in rooms.rt.
 use crate::numbers::Head;
 use crate::numbers::index;
 use crate::numbers::numbers_of;
 use crate::numbers::unsigned;
 use crate::print::print_bits;
 use crate::print::print_number;
+use crate::rooms::rows_with_room;
 use crate::rooms::track_with_room;
 use crate::rooms::write_with_room;
 use whole::sign::size;
@@ -31,14 +32,15 @@ fn call(head: Head, list: &[i64]) {
         17 => write_with_room(head, list),
         18 => track_with_room(list, head.a, index(head.room)),
         19 => print_number(predict::predict(list, unsigned(head.a))),
+        23 => rows_with_room(list, index(head.room)),
         _ => host_at(list, unsigned(head.a)),
     }
 }
 
 pub(crate) fn answer(head: Head, file: &[u8]) {
-    let mut space = [0i64; 8200];
+    let mut space = [0i64; 8320];
     let n = file.len() / 8;
-    if n <= 8200 {
+    if n <= 8320 {
         let list = &mut space[0..n];
         numbers_of(file, list);
         call(head, list);

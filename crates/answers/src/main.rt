@@ -8,6 +8,7 @@ mod lists;
 mod numbers;
 mod print;
 mod rooms;
+mod rows;
 
 use numbers::Head;
 use numbers::head_of;
@@ -24,6 +25,10 @@ fn answer(head: Head, file: &[u8]) {
         lists::answer(head, file);
     } else if what == 21 {
         rooms::all_tracks_with_room(file, index(head.room));
+    } else if what == 22 {
+        rows::days_from_rows(head, file);
+    } else if what == 23 {
+        lists::answer(head, file);
     }
 }
 
@@ -72,6 +77,6 @@ fn answer_all(space: &mut [u8]) {
 }
 
 fn main() {
-    let mut space = [0u8; 65600];
+    let mut space = [0u8; 66560];
     answer_all(&mut space);
 }

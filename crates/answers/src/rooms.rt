@@ -41,6 +41,15 @@ pub(crate) fn all_tracks_with_room(file: &[u8], m: usize) {
     }
 }
 
+pub(crate) fn rows_with_room(days: &[i64], m: usize) {
+    let mut space = [165u8; 16384];
+    if m <= 16384 {
+        let room = &mut space[0..m];
+        print_number(bulletin::rows_from_days(days, room));
+        print_bytes(room);
+    }
+}
+
 // The four lists end at a, b, c and the end.
 fn write_lists(list: &[i64], a: usize, b: usize, c: usize, room: &mut [u8])
     requires { ⌜ (a ≤ b) × (b ≤ c) × (c ≤ length (now list)) ⌝ }
