@@ -15,6 +15,9 @@
  *     struct fringe_tracks all = fringe_all_tracks(file, file_bytes, room, FRINGE_ALL_TRACKS_NUMBERS);
  *                                                                              or the tracks of all passes, in one call
  *
+ *     struct fringe_days read = fringe_days_from_rows(text, text_bytes, first, count, tai_utc, count);
+ *                                                                              days for a file, from the IERS's text
+ *
  * Look at `refusal` after each call. examples/host.c is such a program, whole.
  *
  * Building
@@ -38,8 +41,9 @@
  * Refusals
  *   Every call answers every input. A struct's `refusal` is 0, or one of the numbers of enum fringe_refusal; then all
  *   of its other fields are 0. Where several apply, the lowest is given. So an argument that is out of range is 2 also
- *   where the file by itself would be 3 or 4, and a file that is 1 goes before it. Among passes the order is another:
- *   fringe_all_tracks gives the number of the first pass that is refused, also where a later one has a lower number.
+ *   where the file by itself would be 3 or 4, and a file that is 1 goes before it. Two calls have an order of their
+ *   own: fringe_all_tracks gives the number of the first pass that is refused, also where a later one has a lower
+ *   number, and fringe_days_from_rows gives 10 and 11 before 2.
  *
  * Units
  *   tick               1/2^32 of a turn, 0 to 2^32 - 1
@@ -88,6 +92,13 @@
  *   An orientation record holds UT1R: UT1 less the tides of up to 35 days. The calls add the tide of the epoch.
  *   Bulletins give UT1-UTC with the tide in it, so take it away when you make a record of day `mjd` at 0h:
  *       ut1_utc = (the bulletin's UT1-UTC in nanoseconds) - fringe_tide(mjd, 0, tai_utc).value
+ *   fringe_days_from_rows gives full UT1 and leaves this to you. So do it to each record i that it read, before
+ *   fringe_write:
+ *       int64_t *day = read.days + FRINGE_DAY_NUMBERS * i;
+ *       day[3] -= fringe_tide(day[0], 0, day[4]).value;
+ *   Otherwise the tide counts twice, and no call can notice. The tide is below 2.8 ms, so delays would be wrong by up
+ *   to 0.7 ns for each 1,000 km between the stations. A later version will mark records that hold full UT1, and take
+ *   the tide away by itself.
  *   What fringe_orientation answers as `ut1_used` is full UT1-UTC, with the tide, as the delay uses it.
  *   Between two records pole and UT1R-UTC go on a straight line. Where the next record's TAI-UTC is k seconds more (a
  *   leap second: k is 1), UT1-UTC steps at its 0h and UT1 does not: the line of that day goes to the next record's
@@ -108,6 +119,25 @@
  *   place in the Earth-fixed frame: X toward the Greenwich meridian, Y toward 90 degrees east, Z toward the pole. A
  *   source's place is on the intermediate equator of date, its right ascension counted from the celestial intermediate
  *   origin, both in ticks: a place from a catalogue has to be turned to the date first. A day's record is of 0h UTC.
+ *
+ * Rows of finals2000A
+ *   finals2000A is a text file of the IERS, the service that measures how the Earth turns. It has a row for each day:
+ *   past days as measured, then days to come as predicted. Its values are those of 0h UTC, so a row has what a day's
+ *   record is made of, but for TAI-UTC. A row is the bytes before a line feed; bytes behind the last line feed are no
+ *   row. A column is a byte of the row, counted from 1. Four fields are read, those of the IERS's Bulletin A, and
+ *   become whole numbers exactly:
+ *     columns  holds             unit         for example    becomes
+ *     8-15     MJD               day            57419.00          57419
+ *     19-27    x of the pole     arcsecond     -0.003225          -3225   microarcseconds
+ *     38-46    y of the pole     arcsecond      0.299494         299494   microarcseconds
+ *     59-68    UT1-UTC           second        0.0262864       26286400   nanoseconds; full UT1, see UT1 above
+ *   A field has in its columns: blanks or none, then '-' or nothing, then at least one digit, a point, and as many
+ *   decimals as in the example, the last in the last column. So '.5', '+0.1', a tab, or blanks alone are no number. An
+ *   MJD ends with '.00'. No other column is looked at, and a row may be shorter or longer than the 185 of the IERS.
+ *   There are editions of half a year, and some of many years, which are longer than the call takes. Of these lend the
+ *   part with your days, from the start of a row on; a last row that is cut off is no row.
+ *   TAI-UTC is not in the file. It is whole seconds, and steps with each leap second: 36 from 2015 July 1 (MJD 57,204)
+ *   on, 37 from 2017 January 1 (MJD 57,754) on. The IERS announces the next step in its Bulletin C.
  */
 #ifndef ERLENSIEG_H
 #define ERLENSIEG_H
@@ -116,8 +146,8 @@
 #include <stdint.h>
 
 /* the version; as a number to compare it is 10,000 times the first, and 100 times the second, and the third */
-#define FRINGE_VERSION "0.2.0"
-#define FRINGE_VERSION_NUMBER 200
+#define FRINGE_VERSION "0.3.0"
+#define FRINGE_VERSION_NUMBER 300
 
 /* ---- Limits */
 
@@ -146,6 +176,13 @@
 #define FRINGE_MOST_PASSES 64
 #define FRINGE_MOST_ID 65535
 
+/* of rows of finals2000A */
+#define FRINGE_ANY_ROWS_BYTES 65536       /* longer text is refused by its length alone; 352 rows of 186 bytes fit */
+#define FRINGE_MOST_DAYS_NUMBERS 320      /* numbers of FRINGE_MOST_DAYS records */
+#define FRINGE_ROW_BYTES 186              /* a row that is written, its line feed among them */
+#define FRINGE_MOST_ROWS_BYTES 11904      /* FRINGE_MOST_DAYS of these rows: a room that is always enough */
+#define FRINGE_ROW_UT1_STEP 100           /* ns: UT1-UTC of a row is a multiple, since it has 7 decimals of a second */
+
 /* of epochs */
 #define FRINGE_FIRST_MJD 41317
 #define FRINGE_LAST_MJD 69806
@@ -155,9 +192,12 @@
 
 enum fringe_refusal {
 	FRINGE_ANSWERED = 0,
-	/* file over 65,536 bytes, or contents table or length not as they must be, counts included (writer: a count) */
+	/*
+	 * file over 65,536 bytes, or contents table or length not as they must be, counts included (writer: a count); or
+	 * a text of rows over 65,536 bytes
+	 */
 	FRINGE_WRONG_FILE = 1,
-	/* a field of the file, or an argument of the call, is outside its range */
+	/* a field of the file or of a record, or an argument of the call, is outside its range */
 	FRINGE_OUT_OF_RANGE = 2,
 	/* station or source ids do not rise */
 	FRINGE_IDS_DO_NOT_RISE = 3,
@@ -167,12 +207,16 @@ enum fringe_refusal {
 	FRINGE_NOT_THERE = 5,
 	/* the file lacks the day of an epoch, or the day after; an epoch on the file's last day lacks the day after */
 	FRINGE_DAY_LACKING = 6,
-	/* the lent room for samples, or for a file, is too short */
+	/* the lent room for samples, for a file, or for rows is too short */
 	FRINGE_ROOM_TOO_SHORT = 7,
 	/* no track of the samples fits the lent room */
 	FRINGE_NO_TRACK_FITS = 8,
 	/* the sample is not covered, or the lent track is malformed: see fringe_predict */
-	FRINGE_NOT_PREDICTED = 9
+	FRINGE_NOT_PREDICTED = 9,
+	/* a row's MJD, or another field of a row that is taken, is no number as 'Rows of finals2000A' has it */
+	FRINGE_WRONG_ROW = 10,
+	/* a day that is asked for is in no row */
+	FRINGE_ROW_LACKING = 11
 };
 
 /* kinds of sections of a session file */
@@ -267,6 +311,12 @@ struct fringe_tracks {
 	int64_t counts[FRINGE_MOST_PASSES];
 };
 
+/* records of days, FRINGE_DAY_NUMBERS each: MJD, x, y, UT1-UTC with the tide, TAI-UTC; 0 behind the last */
+struct fringe_days {
+	int64_t refusal;
+	int64_t days[FRINGE_MOST_DAYS_NUMBERS];
+};
+
 #ifdef __cplusplus
 extern "C" {
 #endif
@@ -328,6 +378,34 @@ struct fringe_number fringe_write(const int64_t *stations, size_t station_number
 				  const int64_t *days, size_t day_numbers,
 				  const int64_t *passes, size_t pass_numbers,
 				  uint8_t *room, size_t room_bytes);
+
+/* ---- Days of the IERS's text: see 'Rows of finals2000A' above */
+
+/*
+ * The records of `count` days from the MJD `first` on, of rows of finals2000A; count is 2 to FRINGE_MOST_DAYS. tai_utc
+ * has TAI-UTC for each of these days, in their order. The answer holds the records, so no room is lent. They are as
+ * fringe_write takes them, once you have taken the tide away: see UT1.
+ * Rows may be in any order, and may have days that are not asked for. For each day asked for its first row is taken; of
+ * the other rows only the MJD is judged.
+ * Refusals, the first of these: 1 where the text has more than FRINGE_ANY_ROWS_BYTES; 10 where the MJD of any row, or
+ * x, y or UT1-UTC of a row that is taken, is no number of its form; 11 where a day asked for is in no row; 2 where
+ * first or count is out of its range, tai_utc_numbers is not count, or a field of a record is outside the range that
+ * 'Session file' gives it. So a day that no row has is 11 also where first or count is out of range.
+ */
+struct fringe_days fringe_days_from_rows(const uint8_t *text, size_t text_bytes, int64_t first, int64_t count,
+					 const int64_t *tai_utc, size_t tai_utc_numbers);
+
+/*
+ * Writes records as rows, which fringe_days_from_rows reads back as the same records if their days follow each other
+ * and it is given their TAI-UTC. Here days may come in any order. `days` has 2 to FRINGE_MOST_DAYS records, as struct
+ * fringe_days has them, with full UT1, since that is what rows hold.
+ * A row has 185 columns and a line feed. Each field ends in its last column, has all of its decimals, and at least one
+ * digit before the point; all other columns are blank. TAI-UTC is not written.
+ * value: bytes written, FRINGE_ROW_BYTES for each record; FRINGE_MOST_ROWS_BYTES are always enough.
+ * Refusals: 2 where the list is no whole number of records, their count or a field is out of its range, or UT1-UTC is
+ * no multiple of FRINGE_ROW_UT1_STEP, as it hardly ever is once the tide was taken away; 7.
+ */
+struct fringe_number fringe_rows_from_days(const int64_t *days, size_t day_numbers, uint8_t *room, size_t room_bytes);
 
 /* ---- Delays between stations of the file */
 
@@ -440,6 +518,10 @@ static inline const char *fringe_refusal_text(int64_t refusal)
 		return "no track of the samples fits the lent room";
 	case FRINGE_NOT_PREDICTED:
 		return "the track does not cover the sample, or is malformed";
+	case FRINGE_WRONG_ROW:
+		return "a row's MJD, or x, y or UT1-UTC of a row that is taken, is not printed as it must be";
+	case FRINGE_ROW_LACKING:
+		return "a day asked for is in no row";
 	default:
 		return "no refusal has this number";
 	}

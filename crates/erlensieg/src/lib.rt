@@ -2,4 +2,5 @@
 pub mod angles;
 pub mod delays;
 pub mod files;
+pub mod rows;
 pub mod tracks;
