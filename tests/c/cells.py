@@ -20,11 +20,13 @@ class Cells:
         return "numbers_%d" % self.lists.index(numbers)
 
     def cell(self, value):
-        """A name, a string, a number, numbers in place (a tuple), or a pointer to numbers (a list)."""
+        """A name, a string, bytes, a number, numbers in place (a tuple), or a pointer to numbers (a list)."""
         if isinstance(value, Name):
             return value
         if isinstance(value, str):
             return '"%s"' % value
+        if isinstance(value, bytes):
+            return '"%s"' % "".join(map(character, value))
         if isinstance(value, int):
             return number(value)
         if isinstance(value, tuple):
@@ -43,6 +45,11 @@ class Cells:
 def number(value):
     """A whole number, with or without a sign."""
     return {-(2**63): "INT64_MIN", 2**64 - 1: "UINT64_MAX"}.get(value, str(value))
+
+
+def character(byte):
+    """A byte inside a string of C."""
+    return chr(byte) if 32 <= byte < 127 and byte not in b'"\\' else "\\%03o" % byte
 
 
 def wrapped(text):

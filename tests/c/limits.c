@@ -139,6 +139,47 @@ static void of_sessions(void)
 	untouched(0, COUNT(all));
 }
 
+static uint8_t text[FRINGE_ANY_ROWS_BYTES + 1];
+
+/* the rows of so many days, from one of the list on, to a place of the text; how many bytes that is */
+static size_t rows_of(const char *what, size_t first, size_t count, size_t at, size_t room_bytes, int64_t refusal)
+{
+	size_t bytes = refusal ? 0 : count * FRINGE_ROW_BYTES;
+	test(what);
+	number(fringe_rows_from_days(lists[2] + first * width[2], count * width[2], text + at, room_bytes),
+	       (int64_t[]){refusal, (int64_t)bytes});
+	return bytes;
+}
+
+/* so many days of the text, from the first of the list on */
+static void days_of(const char *what, size_t bytes, size_t count, int64_t refusal)
+{
+	const int64_t tai_utc[FRINGE_MOST_DAYS + 1] = {0};
+	test(what);
+	one(fringe_days_from_rows(text, bytes, lists[2][0], (int64_t)count, tai_utc, count).refusal, refusal);
+}
+
+static void of_rows(void)
+{
+	const size_t most_days = FRINGE_MOST_DAYS, fewest = FRINGE_LEAST_DAYS, all = FRINGE_MOST_ROWS_BYTES;
+	fill_lists();
+	for (size_t i = 0; i <= most_days; i++)
+		lists[2][i * width[2] + 3] = FRINGE_ROW_UT1_STEP;
+	rows_of("one row more than the most", 0, most_days + 1, 0, sizeof text, FRINGE_OUT_OF_RANGE);
+	rows_of("the most rows, and a byte less room", 0, most_days, 0, all - 1, FRINGE_ROOM_TOO_SHORT);
+	rows_of("a row less than the fewest", 0, fewest - 1, 0, sizeof text, FRINGE_OUT_OF_RANGE);
+	size_t bytes = rows_of("the most rows", 0, most_days, 0, all, FRINGE_ANSWERED);
+	bytes += rows_of("the fewest rows", most_days + 1 - fewest, fewest, bytes, sizeof text - bytes, FRINGE_ANSWERED);
+	lists[2][3]++;
+	rows_of("UT1-UTC between two steps", 0, most_days, bytes, sizeof text - bytes, FRINGE_OUT_OF_RANGE);
+	days_of("the most days of rows", bytes, most_days, FRINGE_ANSWERED);
+	days_of("one day more", bytes, most_days + 1, FRINGE_OUT_OF_RANGE);
+	days_of("the fewest days of rows", bytes, fewest, FRINGE_ANSWERED);
+	days_of("a day less", bytes, fewest - 1, FRINGE_OUT_OF_RANGE);
+	days_of("the longest text of rows", FRINGE_ANY_ROWS_BYTES, fewest, FRINGE_ANSWERED);
+	days_of("a byte more", FRINGE_ANY_ROWS_BYTES + 1, fewest, FRINGE_WRONG_FILE);
+}
+
 static void epoch(const char *what, int64_t day, int64_t ms, int64_t refusal)
 {
 	test(what);
@@ -150,6 +191,7 @@ void limits(void)
 	of_tracks();
 	of_files();
 	of_sessions();
+	of_rows();
 	epoch("the first day", FRINGE_FIRST_MJD, 0, FRINGE_ANSWERED);
 	epoch("the day before it", FRINGE_FIRST_MJD - 1, 0, FRINGE_OUT_OF_RANGE);
 	epoch("the last millisecond of the last day", FRINGE_LAST_MJD, FRINGE_LAST_MS, FRINGE_ANSWERED);

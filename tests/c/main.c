@@ -48,7 +48,7 @@ void same_bytes(const void *got, const void *want, size_t n)
 			fails(i, ours[i], theirs[i]);
 }
 
-/* ---- the lent file */
+/* ---- the lent file, or text */
 
 #define GUARD_BYTES 64
 #define MOST_BYTES (FRINGE_ANY_FILE_BYTES + 8)
@@ -56,15 +56,20 @@ static uint8_t bytes[GUARD_BYTES + MOST_BYTES + GUARD_BYTES], kept_bytes[sizeof 
 uint8_t *file = bytes + GUARD_BYTES;
 size_t file_bytes;
 
+void lend_bytes(const void *from, size_t length)
+{
+	memset(bytes, 0xA5, sizeof bytes);
+	memcpy(file, from, length);
+	memcpy(kept_bytes, bytes, sizeof bytes);
+	file_bytes = length;
+}
+
 void lend_file(size_t at, int64_t value, size_t length)
 {
 	static uint8_t whole[MOST_BYTES];
-	memset(bytes, 0xA5, sizeof bytes);
 	memcpy(whole, sound, sizeof sound);
 	memcpy(whole + 8 * at, &value, 8);
-	memcpy(file, whole, length);
-	memcpy(kept_bytes, bytes, sizeof bytes);
-	file_bytes = length;
+	lend_bytes(whole, length);
 }
 
 void file_stays(void)
@@ -113,11 +118,43 @@ void holds(const int64_t *numbers, size_t n)
 	same(memory, want, MOST_NUMBERS);
 }
 
-int main(void)
+/* ---- the lent room for bytes */
+
+#define ALL_BYTES (GUARD_BYTES + ROOM_BYTES + GUARD_BYTES)
+static uint8_t byte_memory[ALL_BYTES];
+uint8_t *byte_room = byte_memory + GUARD_BYTES;
+
+static uint8_t unwritten_byte(size_t i)
 {
+	return i < GUARD_BYTES || i >= GUARD_BYTES + ROOM_BYTES ? (uint8_t)(0xC3 ^ i) : 0x5A;
+}
+
+void empty_byte_room(void)
+{
+	for (size_t i = 0; i < ALL_BYTES; i++)
+		byte_memory[i] = unwritten_byte(i);
+}
+
+void holds_bytes(const void *from, size_t n)
+{
+	static uint8_t want[ALL_BYTES];
+	for (size_t i = 0; i < ALL_BYTES; i++)
+		want[i] = unwritten_byte(i);
+	memcpy(want + GUARD_BYTES, from, n);
+	same_bytes(byte_memory, want, ALL_BYTES);
+}
+
+/* the path of the real rows is the only word */
+int main(int count, char **words)
+{
+	if (count != 2 || !load_rows(words[1])) {
+		fprintf(stderr, "usage: tests ROWS, where ROWS is a file of rows of finals2000A\n");
+		return 2;
+	}
 	angles();
 	files();
 	writes();
+	bulletin();
 	delays();
 	tracks();
 	names();

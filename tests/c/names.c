@@ -12,11 +12,11 @@ static void same_text(const char *what, const char *got, const char *want)
 /* the words of a refusal: those of no other, and no number beyond has words of its own */
 static void refusal_text(int64_t refusal)
 {
-	static const int64_t others[] = {INT64_MIN, -1, FRINGE_NOT_PREDICTED + 1, 4294967297, INT64_MAX};
+	static const int64_t others[] = {INT64_MIN, -1, FRINGE_ROW_LACKING + 1, 4294967297, INT64_MAX};
 	const char *text = fringe_refusal_text(refusal);
 	test("words of a refusal");
 	one(text && strlen(text) > 0, 1);
-	for (int64_t i = FRINGE_ANSWERED; i <= FRINGE_NOT_PREDICTED; i++)
+	for (int64_t i = FRINGE_ANSWERED; i <= FRINGE_ROW_LACKING; i++)
 		one(strcmp(text, fringe_refusal_text(i)) == 0, i == refusal);
 	for (size_t i = 0; i < COUNT(others); i++)
 		one(strcmp(text, fringe_refusal_text(others[i])) == 0, 0);
@@ -32,9 +32,9 @@ void names(void)
 		same_text(row->what, fringe_section_name(row->kind), row->want);
 	for EACH (field_name, row)
 		same_text(row->what, fringe_field_name(row->kind, row->field), row->want);
-	for (int64_t i = FRINGE_ANSWERED; i <= FRINGE_NOT_PREDICTED; i++)
+	for (int64_t i = FRINGE_ANSWERED; i <= FRINGE_ROW_LACKING; i++)
 		refusal_text(i);
-	same_text("words of no refusal", fringe_refusal_text(10), fringe_refusal_text(INT64_MIN));
+	same_text("words of no refusal", fringe_refusal_text(12), fringe_refusal_text(INT64_MIN));
 }
 
 /* every call that takes a slice, with the names of empty ones */
@@ -65,6 +65,15 @@ void empties(void)
 	one(fringe_samples(file, file_bytes, 0, none, 0).refusal, FRINGE_ROOM_TOO_SHORT);
 	test("no records, and no room");
 	one(fringe_write(none, 0, none, 0, none, 0, none, 0, fringe_no_bytes(), 0).refusal, FRINGE_WRONG_FILE);
+	test("no rows, and no TAI-UTC");
+	one(fringe_days_from_rows(no_file, 0, FRINGE_FIRST_MJD, 2, none, 0).refusal, FRINGE_ROW_LACKING);
+	test("no days asked of no rows");
+	one(fringe_days_from_rows(no_file, 0, FRINGE_FIRST_MJD, 0, none, 0).refusal, FRINGE_OUT_OF_RANGE);
+	test("no days, and no room for rows");
+	one(fringe_rows_from_days(none, 0, fringe_no_bytes(), 0).refusal, FRINGE_OUT_OF_RANGE);
+	test("no room for rows");
+	one(fringe_rows_from_days(rows_rows[0].days, rows_rows[0].day_numbers, fringe_no_bytes(), 0).refusal,
+	    FRINGE_ROOM_TOO_SHORT);
 	test("no samples, and no room");
 	one(fringe_track(none, 0, 0, none, 0).refusal, FRINGE_OUT_OF_RANGE);
 	test("no room for a track");

@@ -3,7 +3,7 @@
 from c.cells import Name
 from c.filerows import FILE, at, changed
 from reference import words
-from reference import delay, earth, session, together, track
+from reference import bulletin, delay, earth, session, together, track
 
 
 def track_limits():
@@ -25,6 +25,12 @@ def file_limits():
     yield from (("FIRST_MJD", earth.FIRST_DAY), ("LAST_MJD", earth.LAST_DAY), ("LAST_MS", earth.DAY_MS - 1))
 
 
+def row_limits():
+    row = bulletin.ROW_COLUMNS + 1
+    yield from (("ANY_ROWS_BYTES", bulletin.LONGEST_TEXT), ("MOST_DAYS_NUMBERS", bulletin.MOST_NUMBERS))
+    yield from (("ROW_BYTES", row), ("MOST_ROWS_BYTES", row * bulletin.MOST), ("ROW_UT1_STEP", bulletin.VALUES[2][3]))
+
+
 def refusals():
     """Each number by an input that is refused with it."""
     yield from (("ANSWERED", session.refusal(FILE)), ("WRONG_FILE", session.refusal(b"")))
@@ -34,10 +40,12 @@ def refusals():
     yield from (("NOT_THERE", session.record_at(FILE, 0, 2)[0]), ("DAY_LACKING", delay.orientation(FILE, 60_002, 0)[0]))
     yield from (("ROOM_TOO_SHORT", delay.samples(FILE, 0, [])[0]), ("NO_TRACK_FITS", track.track([0], 0, [])[0]))
     yield ("NOT_PREDICTED", track.predict([], 0)[0])
+    for name, text in (("WRONG_ROW", b"\n"), ("ROW_LACKING", b"")):
+        yield (name, bulletin.days_from_rows(text, earth.FIRST_DAY, 2, [0, 0])[0])
 
 
 def numbers():
-    named = [*track_limits(), *file_limits(), *refusals()]
+    named = [*track_limits(), *file_limits(), *row_limits(), *refusals()]
     yield ("named", "int64_t got, want;", [("FRINGE_" + name, Name("FRINGE_" + name), value) for name, value in named])
 
 

@@ -18,11 +18,12 @@ void same_bytes(const void *got, const void *want, size_t n);
 
 /*
  * The lent session file, between guard bytes: the sound one with a number changed, cut off or lengthened by zeros to
- * `length`. `file_stays` is a check that neither it nor a guard has changed since.
+ * `length`. `lend_bytes` lends any bytes there. `file_stays` is a check that neither they nor a guard have changed since.
  */
 extern uint8_t *file;
 extern size_t file_bytes;
 void lend_file(size_t at, int64_t value, size_t length);
+void lend_bytes(const void *from, size_t length);
 void file_stays(void);
 
 /* Numbers that are lent to be read, between guards, and a check that they stay. */
@@ -36,9 +37,19 @@ extern int64_t *room;
 void empty_room(void);
 void holds(const int64_t *numbers, size_t n);
 
+/* The same for bytes. */
+#define ROOM_BYTES (FRINGE_MOST_ROWS_BYTES + 600)
+extern uint8_t *byte_room;
+void empty_byte_room(void);
+void holds_bytes(const void *from, size_t n);
+
+/* The real rows, from a file; 0 where it cannot be read. */
+int load_rows(const char *path);
+
 void angles(void);
 void files(void);
 void writes(void);
+void bulletin(void);
 void delays(void);
 void tracks(void);
 void names(void);

@@ -3,9 +3,6 @@
 #include "values.h"
 #include <string.h>
 
-#define GUARD 32
-static uint8_t memory[GUARD + 600 + GUARD], want[sizeof memory];
-
 /* the four lists, each between guard numbers */
 #define GUARDS 8
 #define NUMBERS (GUARDS + 16 + GUARDS)
@@ -32,14 +29,12 @@ static void fill(const struct write_row *row)
 static void write_one(const struct write_row *row)
 {
 	fill(row);
-	memset(memory, 0x5A, sizeof memory);
-	memset(want, 0x5A, sizeof want);
-	memcpy(want + GUARD, sound, (size_t)row->want[1]);
+	empty_byte_room();
 	test(row->what);
 	number(fringe_write(lists[0] + GUARDS, row->lengths[0], lists[1] + GUARDS, row->lengths[1], lists[2] + GUARDS,
-			    row->lengths[2], lists[3] + GUARDS, row->lengths[3], memory + GUARD, row->room_bytes),
+			    row->lengths[2], lists[3] + GUARDS, row->lengths[3], byte_room, row->room_bytes),
 	       row->want);
-	same_bytes(memory, want, sizeof want);
+	holds_bytes(sound, (size_t)row->want[1]);
 	same_bytes(lists, kept, sizeof kept);
 }
 
