@@ -1,4 +1,4 @@
-/* Plain C by the rules of document 01, with __int128 where a product passes 64 bits: what the proved calls are measured beside.
+/* Plain C by the rules of documents 01 and 02, with __int128 where a product passes 64 bits: what the proved calls are measured beside.
    Names, arguments, answers and refusal numbers are those of include/erlensieg.h, with base_ for fringe_. Nothing here is proved;
    selftest holds it to the independent program of tests/reference, and bench/run starts with that. */
 #ifndef BASELINE_H
@@ -15,6 +15,8 @@ struct fringe_angle base_angle_at(int64_t day, int64_t f);
 struct fringe_counts base_check(const uint8_t *file, size_t n);
 /* The four lists and their lengths, in the order of fringe_write. */
 struct fringe_number base_write(const int64_t *const lists[4], const size_t lengths[4], uint8_t *room, size_t m);
+struct fringe_days base_days_from_rows(const uint8_t *text, size_t n, int64_t first, int64_t count, const int64_t *tai, size_t m);
+struct fringe_number base_rows_from_days(const int64_t *days, size_t n, uint8_t *room, size_t m);
 struct fringe_earth base_orientation(const uint8_t *file, size_t n, int64_t day, int64_t ms);
 struct fringe_number base_delay(const uint8_t *file, size_t n, int64_t station1, int64_t station2, int64_t source, int64_t day, int64_t ms);
 struct fringe_number base_samples(const uint8_t *file, size_t n, uint64_t pass, int64_t *room, size_t m);

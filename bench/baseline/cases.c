@@ -67,18 +67,32 @@ static void with_numbers(const int64_t q[8], size_t m) {
     print(room, m);
 }
 
-static void with_bytes(const int64_t q[8], size_t m) {
-    const int64_t *lists[4];
-    size_t lengths[4], at = 0, count = length / 8;
-    if (m > MOST_BYTES) return;
+static void of_rows(const int64_t q[8], size_t m) {
+    struct fringe_days d;
+    if (m > length / 8) return;
+    d = base_days_from_rows(lent + 8 * m, length - 8 * m, q[1], q[2], numbers, m);
+    printf("%" PRId64 " ", d.refusal);
+    print(d.days, sizeof d.days / 8);
+}
+
+/* Parts the lent numbers into the writer's lists; whether there are so many. */
+static int parted(const int64_t q[8], const int64_t *lists[4], size_t lengths[4]) {
+    size_t at = 0, count = length / 8;
     for (size_t i = 0; i < 4; i++) {
         lists[i] = numbers + at;
         lengths[i] = i < 3 ? (size_t)q[i + 1] : count - at;
-        if (lengths[i] > count - at) return;
+        if (lengths[i] > count - at) return 0;
         at += lengths[i];
     }
+    return 1;
+}
+
+static void with_bytes(const int64_t q[8], size_t m) {
+    const int64_t *lists[4];
+    size_t lengths[4];
+    if (m > MOST_BYTES || (q[0] == 17 && !parted(q, lists, lengths))) return;
     memset(bytes, 165, m);
-    answer(base_write(lists, lengths, bytes, m));
+    answer(q[0] == 17 ? base_write(lists, lengths, bytes, m) : base_rows_from_days(numbers, length / 8, bytes, m));
     for (size_t i = 0; i < m; i++) printf("%02x", bytes[i]);
     printf("\n");
 }
@@ -97,7 +111,8 @@ int main(void) {
         for (size_t i = 0; i < 8; i++) q[i] = base_word(head, 8 * i);
         lend((uint64_t)q[7]);
         if (q[0] == 16 || q[0] == 18) with_numbers(q, (size_t)q[6]);
-        else if (q[0] == 17) with_bytes(q, (size_t)q[6]);
+        else if (q[0] == 17 || q[0] == 23) with_bytes(q, (size_t)q[6]);
+        else if (q[0] == 22) of_rows(q, (size_t)q[3]);
         else if (q[0] < 8) of_an_angle(q);
         else of_a_file(q);
     }
