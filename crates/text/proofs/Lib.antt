@@ -7,3 +7,4 @@ pub mod Digits
 pub mod Puts
 pub mod Reading
 pub mod LineFeeds
+pub mod NumberRows

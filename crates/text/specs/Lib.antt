@@ -4,3 +4,4 @@ pub mod Code
 pub mod Decimal
 pub mod Put
 pub mod Lines
+pub mod Table
