@@ -1,9 +1,9 @@
 // Refusal 1, in words on standard error: the first wrong number of the contents table, or the length of the file.
 ghost use Prim.Native.Nat.{_<_, _≤_};
-use crate::say::say;
-use crate::say::say_decimal;
-use crate::say::say_natural;
-use crate::say::say_place;
+use console::say::say;
+use console::say::say_decimal;
+use console::say::say_natural;
+use console::say::say_place;
 use sections::layouts::layout_in;
 use text::words::number_at;
 use whole::sign::size;

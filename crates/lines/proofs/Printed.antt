@@ -34,7 +34,8 @@ use Rattle.track.specs.Answer.{inRange, written}
 use Rattle.track.proofs.Answers.{always-enough}
 use Rattle.fringe.specs.PassTrack.{passSamples, passOutcome}
 use Rattle.text.specs.Decimal.{digitsBy, digitsOf, decimal}
-use Rattle.lines.specs.Text.{lineOf, passLine, segmentLine, segmentLines, outcomeText, passText, passTexts, sessionText}
+use Rattle.text.specs.Table.{lineOf, rowLine, rowLines}
+use Rattle.lines.specs.Text.{passLine, outcomeText, passText, passTexts, sessionText}
 use Rattle.lines.specs.Printed.{OneStationTwice, smallest, inWhole}
 use Rattle.lines.proofs.Passes.{number-by}
 
@@ -55,7 +56,7 @@ unfolding allBelow inRange
 zeros-in = refl
 
 two-lines : (room : List ℤ) → outcomeText 0 (written (three ∷ []) room) ≡ inWhole
-unfolding flat digitsBy digitsOf decimal lineOf passLine segmentLine segmentLines outcomeText
+unfolding flat digitsBy digitsOf decimal lineOf rowLine rowLines passLine outcomeText
 two-lines room = refl
 
 -- ---- the file

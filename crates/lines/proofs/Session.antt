@@ -14,7 +14,8 @@ use Rattle.whole.specs.Answers.{given}
 use Rattle.whole.proofs.Linear.{no-ft, no-tf}
 use Rattle.sections.specs.File.{refusalOf, countOf}
 use Rattle.session.specs.Records.{checkOf, countsIn, noCounts}
-use Rattle.lines.specs.Text.{refusedLine, passTexts, sessionText}
+use Rattle.text.specs.Table.{refusedLine}
+use Rattle.lines.specs.Text.{passTexts, sessionText}
 
 some-above : (r : ℕ) → leb 1 (suc r) ≡ true
 some-above r = le-leb 1 (suc r) (omega arith)

@@ -17,7 +17,8 @@ use Rattle.track.specs.Answer.{Outcome, outcome, refused, written}
 use Rattle.track.proofs.Answers.{each-way}
 use Rattle.track.proofs.Runs.{flat-length}
 use Rattle.fringe.specs.PassTrack.{passSamples, passOutcome}
-use Rattle.lines.specs.Text.{refusedLine, passLine, segmentLines, outcomeText, lentOutcome}
+use Rattle.text.specs.Table.{refusedLine}
+use Rattle.lines.specs.Text.{passLine, segmentLines, outcomeText, lentOutcome}
 
 -- as many segments as the outcome says stand in its room, and there is room for k
 pub record Holds (k : ℕ) (o : Outcome) : Type 0 where

@@ -1,40 +1,26 @@
 -- Document 01, 'Numbers to meet', the track program: what it prints, as bytes of ASCII.
-use Prim.Native.Nat.{ℕ, zero, suc, _+_, _*_}
+use Prim.Native.Nat.{ℕ, zero, suc, _*_}
 use mathlib.Core.Bool.{cond}
 use mathlib.Core.List.{List, [], _∷_, _++_}
 use lib.IntN.{ℤ, pos}
-use lib.ListN.{getD, replicate}
+use lib.ListN.{replicate}
 use lib.Signed.{leZ}
 use Rattle.whole.specs.Whole.{posPart}
 use Rattle.whole.specs.Answers.{given}
 use Rattle.sections.specs.File.{refusalOf, countOf}
 use Rattle.track.specs.Answer.{Outcome}
 use Rattle.fringe.specs.PassTrack.{passOutcome}
-use Rattle.text.specs.Decimal.{decimal}
-
--- numbers with one space between, ended by a line feed
-unfoldable pub lineOf : ℤ → List ℤ → List ℕ
-lineOf z [] = decimal z ++ (10 ∷ [])
-lineOf z (y ∷ ys) = decimal z ++ (32 ∷ []) ++ lineOf y ys
-
--- "prints `refused` and the number"
-unfoldable pub refusedLine : ℤ → List ℕ
-refusedLine n = (114 ∷ 101 ∷ 102 ∷ 117 ∷ 115 ∷ 101 ∷ 100 ∷ 32 ∷ []) ++ lineOf n []
+use Rattle.text.specs.Table.{lineOf, rowLines, refusedLine}
 
 -- "`pass 0 1` ...: pass index and segment count"
 unfoldable pub passLine : ℕ → ℤ → List ℕ
 passLine i m = (112 ∷ 97 ∷ 115 ∷ 115 ∷ 32 ∷ []) ++ lineOf (pos i) (m ∷ [])
 
--- "one line a segment": the four numbers of a segment, which stand from number b on
-unfoldable pub segmentLine : List ℤ → ℕ → List ℕ
-segmentLine room b = lineOf (getD room b (pos 0)) (getD room (b + 1) (pos 0) ∷ getD room (b + 2) (pos 0) ∷ getD room (b + 3) (pos 0) ∷ [])
+-- "one line a segment": the first m segments of a room, four numbers each
+abbrev pub segmentLines : List ℤ → ℕ → List ℕ
+segmentLines room m = rowLines 4 room m
 
--- the lines of the first m segments of a room
-unfoldable pub segmentLines : List ℤ → ℕ → List ℕ
-segmentLines room zero = []
-segmentLines room (suc m) = segmentLines room m ++ segmentLine room (4 * m)
-
--- "a refused pass prints them in place of its lines"
+-- "prints `refused` and the number", and "a refused pass prints them in place of its lines"
 unfoldable pub outcomeText : ℕ → Outcome → List ℕ
 outcomeText i o =
     let n = o .answer .refusal in

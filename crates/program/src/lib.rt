@@ -3,26 +3,26 @@ ghost use mathlib.Core.Path.{_≡_};
 ghost use Prim.Native.Nat.{_+_, _<_, _≤_};
 ghost use lib.ListN.{length};
 ghost use Rattle.session.specs.Records.{checkOf};
-ghost use Rattle.lines.specs.Text.{refusedLine, lentOutcome, passText, passTexts, sessionText};
+ghost use Rattle.text.specs.Table.{refusedLine};
+ghost use Rattle.lines.specs.Text.{lentOutcome, passText, passTexts, sessionText};
 ghost use Rattle.program.specs.Endings.{allAnswered};
 ghost use Rattle.explain.specs.Numbers.{Numbers};
 ghost use Rattle.program.specs.Promises.{RunPromise};
 
 mod ending;
-mod input;
 
-use ending::lost_any;
+use console::ending::lost_any;
+use console::ending::say_unread;
+use console::ending::status_of;
+use console::ending::tell;
+use console::input::read_input;
 use ending::passes_answered;
 use ending::say_line_lost;
 use ending::say_passes_lost;
-use ending::say_unread;
-use ending::status_of;
-use ending::tell;
 use explain::explain_file;
 use explain::explain_passes;
-use input::read_input;
 use lines::pass_text;
-use lines::refused_text;
+use text::table::put_refused;
 use whole::sign::size;
 
 // Writes the whole text of a file to standard output; the file says which text that is. Answers whether all of it was written.
@@ -47,7 +47,7 @@ fn write_pass(text: &[u8], file: &[u8], i: usize, going: bool) -> bool
 fn print_refused(file: &[u8], n: i64, room: &mut [u8]) -> bool
     requires { ⌜ (29 ≤ length (now room)) × (sessionText (now file) ≡ refusedLine n) ⌝ }
 {
-    let end = refused_text(room, n);
+    let end = put_refused(room, n);
     write_session(&room[..end], file)
 }
 

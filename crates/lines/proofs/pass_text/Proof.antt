@@ -13,7 +13,8 @@ use Rattle.whole.specs.Whole.{posPart, ∣_∣}
 use Rattle.whole.proofs.Linear.{ret}
 use Rattle.track.specs.Answer.{Outcome}
 use Rattle.text.specs.Put.{Put}
-use Rattle.lines.specs.Text.{refusedLine, passLine, segmentLines, outcomeText, passText, lentOutcome}
+use Rattle.text.specs.Table.{refusedLine}
+use Rattle.lines.specs.Text.{passLine, segmentLines, outcomeText, passText, lentOutcome}
 use Rattle.text.proofs.Puts.{put-then, put-long}
 use Rattle.lines.proofs.Texts.{lent-holds, refused-is, made-is}
 use borrow.Author.Needs.{needs}
@@ -48,8 +49,8 @@ slice-aggregate-pass-track c = search needs
 pass-track-requires : tie.Need-pass-track-requires
 pass-track-requires c κs = search needs
 
-refused-text-requires : tie.Need-refused-text-requires
-refused-text-requires c κs = search needs
+put-refused-requires : tie.Need-put-refused-requires
+put-refused-requires c κs = search needs
 
 same-length : tie.Need-same-length
 same-length c = search needs
@@ -59,7 +60,7 @@ unfolding passText
 returns c =
     let s = c .before .before .before .before .before .before .before .before .before .before .before in
     let t = c .before .before .before .before .before in
-    let n = c .before .before .refused-text in
+    let n = c .before .before .put-refused in
     let o = outcomeOf (t .before .before) in
     let e = refusal-is t in
     let y : leZ (pos 1) (o .answer .refusal) ≡ true = ap (leZ (pos 1)) (sym e) ∙ c .before .before .before .before .if1 .taken in
@@ -69,20 +70,20 @@ returns c =
 put-pass-requires : tie.Need-put-pass-requires
 put-pass-requires c κs = search needs
 
-slice-aggregate-put-segments : tie.Need-slice-aggregate-put-segments
-slice-aggregate-put-segments c = search needs
+slice-aggregate-put-rows : tie.Need-slice-aggregate-put-rows
+slice-aggregate-put-rows c = search needs
 
 size-requires : tie.Need-size-requires
 size-requires c κs = search needs
 
-put-segments-requires : tie.Need-put-segments-requires
-put-segments-requires c κs =
+put-rows-requires : tie.Need-put-rows-requires
+put-rows-requires c κs =
     let m = count-is c in
     let t = c .before .before .before .before .before .before .before .before .before .before .before in
     let h = lent-holds (t .before .before .before .before .args .file .now) (t .before .before .before .before .args .pass) in
     let p = c .before .before .before .before .before .put-pass in
     let l = put-long (p .ensures .0) (omega (arith, p .ensures .1, t .before .before .before .before .pre)) in
-    (omega (arith, m, h .few, p .ensures .1, l, t .before .before .before .before .pre), omega (arith, m, h .there, ap length (room-is t)))
+    (omega arith, omega (arith, m, h .few, p .ensures .1, l, t .before .before .before .before .pre), omega (arith, m, h .there, ap length (room-is t)))
 
 same-length-2 : tie.Need-same-length-2
 same-length-2 c = search needs
@@ -93,7 +94,7 @@ returns-2 c =
     let s = c .before .before .before .before .before .before .before .before .before .before .before .before .before .before .before .before .before .before in
     let t = c .before .before .before .before .before .before .before .before .before .before .before .before in
     let p = c .before .before .before .before .before .before .before .before .put-pass in
-    let g = c .before .before .put-segments in
+    let g = c .before .before .put-rows in
     let o = outcomeOf (t .before .before) in
     let e = refusal-is t in
     let y : leZ (pos 1) (o .answer .refusal) ≡ false = ap (leZ (pos 1)) (sym e) ∙ c .before .before .before .before .before .before .before .before .before .before .before .if1 .left in
@@ -108,12 +109,12 @@ pass-text-spec =
     (tie.spec
     slice-aggregate-pass-track
     pass-track-requires
-    refused-text-requires
+    put-refused-requires
     same-length
     returns
     put-pass-requires
-    slice-aggregate-put-segments
+    slice-aggregate-put-rows
     size-requires
-    put-segments-requires
+    put-rows-requires
     same-length-2
     returns-2)

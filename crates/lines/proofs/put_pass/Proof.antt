@@ -10,7 +10,8 @@ use mir.Val.{Fits}
 use Rattle.whole.proofs.Linear.{back}
 use Rattle.text.specs.Decimal.{digitsOf, decimal}
 use Rattle.text.specs.Put.{Put}
-use Rattle.lines.specs.Text.{lineOf, passLine}
+use Rattle.text.specs.Table.{lineOf}
+use Rattle.lines.specs.Text.{passLine}
 use Rattle.text.proofs.Digits.{at-most}
 use Rattle.text.proofs.Puts.{put-then, put-long}
 use borrow.Author.Needs.{needs}

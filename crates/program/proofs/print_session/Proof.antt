@@ -14,7 +14,8 @@ use Rattle.whole.specs.Whole.{∣_∣}
 use Rattle.whole.proofs.Linear.{ret}
 use Rattle.session.specs.declared.Counts.{Counts}
 use Rattle.session.specs.Records.{checkOf}
-use Rattle.lines.specs.Text.{refusedLine, passTexts}
+use Rattle.text.specs.Table.{refusedLine}
+use Rattle.lines.specs.Text.{passTexts}
 use Rattle.lines.proofs.Session.{session-refused, session-passes}
 use Rattle.lines.proofs.Passes.{not-refused, passes-few}
 use borrow.Author.Needs.{needs}

@@ -4,7 +4,7 @@ use mathlib.Core.Path.{_≡_, sym, ap, _∙_}
 use mathlib.Core.Bool.{Bool}
 use lib.Seq.{length-take-le}
 use Rattle.whole.proofs.Linear.{ret}
-use Rattle.program.specs.Endings.{statusBy}
+use Rattle.console.specs.Status.{statusBy}
 use Rattle.program.proofs.run.Statement.{statement}
 use Rattle.program.proofs.run.Tie as tie
 

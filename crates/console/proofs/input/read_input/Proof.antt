@@ -1,11 +1,11 @@
--- `program::input::read_input` counts bytes that stand in the buffer.
+-- `console::input::read_input` counts bytes that stand in the buffer.
 use borrow.Author.Needs.{needs}
 use mathlib.Core.Path.{_≡_, refl}
 use Prim.Native.Nat.{_-_, _≤_}
 use native.Mathlib.Omega.{arith}
 use lib.ListN.{length}
-use Rattle.program.proofs.input.read_input.Statement.{statement}
-use Rattle.program.proofs.input.read_input.Tie as tie
+use Rattle.console.proofs.input.read_input.Statement.{statement}
+use Rattle.console.proofs.input.read_input.Tie as tie
 
 abbrev Inv-loop : tie.InvT-loop
 Inv-loop buffer₀ n₀ buffer n = (n ≤ length buffer) × (length buffer ≡ length buffer₀)

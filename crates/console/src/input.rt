@@ -3,7 +3,7 @@ ghost use Prim.Native.Nat.{_+_, _≤_};
 ghost use lib.ListN.{length};
 
 // How many bytes were read, and whether a read failed behind them.
-pub(crate) struct Input {
+pub struct Input {
     pub bytes: usize,
     pub failed: bool,
 }
@@ -23,7 +23,7 @@ fn read_from(buffer: &mut [u8], n: usize) -> Input
 }
 
 // Reads until the buffer is full, the input ends or a read fails. The kit's `io::read_full` does not tell the last two apart.
-pub(crate) fn read_input(buffer: &mut [u8]) -> Input
+pub fn read_input(buffer: &mut [u8]) -> Input
     ensures { λ r. ⌜ r .bytes ≤ length (now (buffer .exit)) ⌝ }
 {
     let mut n: usize = 0;

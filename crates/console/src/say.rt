@@ -9,7 +9,7 @@ pub fn say(words: &[u8]) {
 }
 
 // A number in decimal.
-pub(crate) fn say_decimal(z: i64) {
+pub fn say_decimal(z: i64) {
     let mut room = [0u8; 20];
     let digits = decimal_text(&mut room, z);
     say(digits);
@@ -77,26 +77,26 @@ fn say_word(others: &[u8], kind: i64, k: usize) {
 }
 
 // The name of the section of a kind.
-pub(crate) fn say_section(kind: i64) {
+pub fn say_section(kind: i64) {
     say_word(b"", kind, 0);
 }
 
 // The name of field k of a record of the kind.
-pub(crate) fn say_field(kind: i64, k: usize)
+pub fn say_field(kind: i64, k: usize)
     requires { ⌜ k < 8 ⌝ }
 {
     say_word(b"", kind, 2 * k + 1);
 }
 
 // Its unit, if it has one.
-pub(crate) fn say_unit(kind: i64, k: usize)
+pub fn say_unit(kind: i64, k: usize)
     requires { ⌜ k < 8 ⌝ }
 {
     say_word(b"; the unit is ", kind, 2 * k + 2);
 }
 
 // The name of the section in a place, by the first kind that may stand there.
-pub(crate) fn say_place(place: usize)
+pub fn say_place(place: usize)
     requires { ⌜ place < 4 ⌝ }
 {
     say_section(number(place + 1));

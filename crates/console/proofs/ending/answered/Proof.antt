@@ -1,4 +1,4 @@
--- `program::ending::answered` is the test of its definition.
+-- `console::ending::answered` is the test of its definition.
 use mathlib.Core.Path.{ap}
 use borrow.Author.Tests.{eq-eqb, eqb-true}
 use lib.IntN.{pos}
@@ -9,8 +9,8 @@ use Rattle.whole.proofs.Linear.{bits-eq}
 use Rattle.whole.proofs.Tests.{same-test}
 use Rattle.whole.specs.Ranges.{eqZ}
 use Rattle.whole.proofs.Order.{eqZ-true, eqZ-refl}
-use Rattle.program.proofs.ending.answered.Statement.{statement}
-use Rattle.program.proofs.ending.answered.Tie as tie
+use Rattle.console.proofs.ending.answered.Statement.{statement}
+use Rattle.console.proofs.ending.answered.Tie as tie
 
 returns : tie.Need-returns
 returns c =
