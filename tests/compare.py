@@ -1,4 +1,4 @@
-"""The proved programs held to the reference: `answers` by questions, in a few long runs; `tracks` file by file."""
+"""The proved programs held to the reference: `answers` by questions, in a few long runs; `tracks` file by file; `days` run by run."""
 
 from concurrent.futures import ThreadPoolExecutor
 
@@ -55,14 +55,13 @@ def status(wanted):
     return 1 if any(line.startswith("refused") for line in lines_of(wanted)) else 0
 
 
-def complaints(file, wanted, ran):
-    """What is wrong about one run of `tracks`: standard output, standard error, or the status that it tells."""
-    wrote, said, ended, told = ran
-    reasons = inputs.program.said(file, wanted)
+def complaints(outcome, ran):
+    """What is wrong about one run of a program: standard output, standard error, or the status that it tells."""
+    (wanted, reasons, status), (wrote, said, ended, told) = outcome, ran
     for name, got, right in (("standard output", wrote, wanted), ("standard error", said, reasons)):
         yield "" if got == right else "%s, %s" % (name, difference(lines_of(got), lines_of(right)))
-    told_right = told == b"%d\n" % status(wanted) and ended == 0
-    yield "" if told_right else "told the status %r, wanted %d, and ended with %d" % (told, status(wanted), ended)
+    told_right = told == b"%d\n" % status and ended == 0
+    yield "" if told_right else "told the status %r, wanted %d, and ended with %d" % (told, status, ended)
 
 
 def tracks(tally):
@@ -70,9 +69,19 @@ def tracks(tally):
     with ThreadPoolExecutor(programs.AT_A_TIME) as pool:
         runs = pool.map(lambda file: rattle.run_and_listen(command, file), [file for file, _ in known])
         for i, ((file, wanted), ran) in enumerate(zip(known, runs, strict=True)):
-            tally.nothing_wrong("tracks, file %d" % i, complaints(file, wanted, ran))
+            outcome = (wanted, inputs.program.said(file, wanted), status(wanted))
+            tally.nothing_wrong("tracks, file %d" % i, complaints(outcome, ran))
     for line in inputs.program.report(known):
         tally.say(line)
 
 
-COMPARISONS = {"answers": answers, "tracks": tracks}
+def days(tally):
+    command, known = rattle.command("days"), programs.runs()
+    with ThreadPoolExecutor(programs.AT_A_TIME) as pool:
+        ran = pool.map(lambda run: rattle.run_and_listen([*command, *run.words], run.rows), [run for run, _ in known])
+        for (run, outcome), got in zip(known, ran, strict=True):
+            tally.nothing_wrong("days %.60s" % " ".join(run.words), complaints(outcome, got))
+    tally.say("%d runs" % len(known))
+
+
+COMPARISONS = {"answers": answers, "tracks": tracks, "days": days}

@@ -1,12 +1,13 @@
-"""The two proved programs and their inputs, each with what the reference prints for it, worked out once a run.
+"""The proved programs and their inputs, each with what the reference prints for it, worked out once a run.
 
-`answers` is asked the questions of each topic; `tracks` is given session files.
+`answers` is asked the questions of each topic; `tracks` is given session files, `days` words and rows.
 """
 
 from functools import cache
 from multiprocessing import get_context
 
 import inputs.bulletin
+import inputs.days
 import inputs.delay
 import inputs.earth
 import inputs.lending
@@ -28,7 +29,7 @@ TOPICS = {
     "bulletin": inputs.bulletin,
 }
 
-PROGRAMS = ("answers", "tracks")
+PROGRAMS = ("answers", "tracks", "days")
 AT_A_TIME = 2
 
 
@@ -55,3 +56,10 @@ def sessions():
     """Each session file with what `tracks` prints for it."""
     files = inputs.program.inputs()
     return list(zip(files, worked_out(inputs.program.printed, files)))
+
+
+@cache
+def runs():
+    """Each run of `days` with what it writes and tells."""
+    made = inputs.days.runs()
+    return list(zip(made, worked_out(inputs.days.outcome, made)))

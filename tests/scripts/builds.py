@@ -1,4 +1,4 @@
-"""When ./tracks builds the program, and what it says and answers of that.
+"""When ./tracks builds the program, and what it says and answers of that; ./days does it by the same file, libexec/program.
 
 It is tried on a copy, with a kit that proves nothing and writes down what it is asked.
 """
@@ -48,7 +48,7 @@ class Copy:
     def __init__(self, folder):
         self.root, self.kit = os.path.join(folder, "a copy"), os.path.join(folder, "kit")
         shutil.copytree(os.path.join(ROOT, "crates"), os.path.join(self.root, "crates"))
-        for name in ("tracks", "crates.txt", "include/erlensieg.h", "examples/session"):
+        for name in ("tracks", "libexec/program", "crates.txt", "include/erlensieg.h", "examples/session"):
             os.makedirs(os.path.dirname(os.path.join(self.root, name)), exist_ok=True)
             shutil.copy(os.path.join(ROOT, name), os.path.join(self.root, name))
         put(RT, self.kit, "bin", "rt")

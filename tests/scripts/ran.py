@@ -1,9 +1,11 @@
 """Running what a reader runs, and what each script refuses."""
 
 import os
+import pty
 import shutil
 import subprocess
 import tempfile
+import tty
 
 from rattle import ROOT
 
@@ -43,3 +45,16 @@ def unreadable(tally, script):
     refuses(tally, "%s of a directory" % script, ran([command, "examples"]), 2, "'examples' is a directory")
     refuses(tally, "%s of two files" % script, ran([command, SESSION, SESSION]), 2, "usage:")
     without_rt(tally, script)
+
+
+def lines(*said):
+    return "".join(line + "\n" for line in said)
+
+
+def breaks_off(file):
+    """A descriptor that gives these bytes and then an error: a terminal's one end, after the other is closed."""
+    ours, theirs = pty.openpty()
+    tty.setraw(theirs)
+    os.write(theirs, file)
+    os.close(theirs)
+    return ours

@@ -4,21 +4,19 @@ The proved program is run; tests/scripts/builds.py tries when the script builds 
 """
 
 import os
-import pty
 import re
 import resource
 import shutil
 import subprocess
 import tempfile
 import time
-import tty
 
 from inputs import program as cases
 from inputs import spoken
 from rattle import ROOT
 from reference import session, words
 from scripts.ran import SESSION as SAMPLE
-from scripts.ran import contents, unreadable
+from scripts.ran import breaks_off, contents, lines, unreadable
 
 TRACKS = os.path.join(ROOT, "tracks")
 
@@ -30,10 +28,6 @@ def ran(*args, **more):
     more = {"stdout": subprocess.PIPE, "timeout": 120, **more}
     done = subprocess.run([TRACKS, *args], stderr=subprocess.PIPE, **more)
     return (done.returncode, done.stdout, done.stderr.decode(errors="replace"))
-
-
-def lines(*said):
-    return "".join(line + "\n" for line in said)
 
 
 def status_of(file):
@@ -181,15 +175,6 @@ def unread(tally):
     directory = os.open(ROOT, os.O_RDONLY)
     tally.equal("a directory as input", ran("-", stdin=directory), lost_at(b""))
     os.close(directory)
-
-
-def breaks_off(file):
-    """A descriptor that gives these bytes and then an error: a terminal's one end, after the other is closed."""
-    ours, theirs = pty.openpty()
-    tty.setraw(theirs)
-    os.write(theirs, file)
-    os.close(theirs)
-    return ours
 
 
 def broken_off(tally):

@@ -1,7 +1,7 @@
 """Files that are made and stored: each is held here to what its rule makes now, and `tests/remake` writes them anew.
 
-They are a part of what the reference prints for each topic, with the digest of the whole; the files `stdin` and
-`stdout` of the two program crates; the sample session; the C headers of tests/c; and the marked parts of pages.
+They are a part of what the reference prints for each topic, with the digest of the whole; the files `stdin`, `stdout`
+and `args` of the program crates; the sample session; the C headers of tests/c; and the marked parts of pages.
 """
 
 import glob
@@ -9,6 +9,7 @@ import hashlib
 import os
 
 import c.values
+import inputs.days
 import inputs.program
 import inputs.sample
 import programs
@@ -43,6 +44,9 @@ def summaries():
     files, wrote = zip(*programs.sessions())
     made = summary(["file of %d bytes" % len(file) for file in files], [each.decode().splitlines() for each in wrote])
     yield (place("tests", "stored", "tracks.txt"), made)
+    runs, outcomes = zip(*programs.runs())
+    said = [(wrote + said).decode().splitlines() for wrote, said, _ in outcomes]
+    yield (place("tests", "stored", "days.txt"), summary([inputs.days.head(run) for run in runs], said))
 
 
 def crate_files():
@@ -51,6 +55,10 @@ def crate_files():
     yield (place("crates", "answers", "stdout"), text(line for question in asked for line in lines_of(question)))
     yield (place("crates", "tracks", "stdin"), inputs.program.short())
     yield (place("crates", "tracks", "stdout"), inputs.program.printed(inputs.program.short()))
+    run = inputs.days.short()
+    yield (place("crates", "days", "args"), text(run.words))
+    yield (place("crates", "days", "stdin"), run.rows)
+    yield (place("crates", "days", "stdout"), inputs.days.outcome(run)[0])
 
 
 def all_files():
@@ -65,7 +73,7 @@ def all_files():
 
 def left_over(made):
     """Files where made ones stand that nothing makes."""
-    patterns = (("tests", "stored", "*.txt"), ("crates", "*", "stdin"), ("crates", "*", "stdout"))
+    patterns = (("tests", "stored", "*.txt"), *(("crates", "*", name) for name in ("args", "stdin", "stdout")))
     found = {path for pattern in patterns for path in glob.glob(place(*pattern))}
     return sorted(name(path) for path in found - set(made))
 

@@ -31,7 +31,7 @@ fn past_blanks(s: &[u8]) -> &[u8]
 }
 
 // Whether a `-` stands at the start.
-fn is_minus(s: &[u8]) -> bool
+pub fn is_minus(s: &[u8]) -> bool
     ensures { λ r. ⌜ r ≡ isMinus (now (s .entry)) ⌝ }
 {
     if s.len() == 0 {
@@ -41,7 +41,7 @@ fn is_minus(s: &[u8]) -> bool
 }
 
 // What stands behind it.
-fn past_minus(s: &[u8]) -> &[u8]
+pub fn past_minus(s: &[u8]) -> &[u8]
     ensures { λ r. ⌜ now r ≡ pastMinus (now (s .entry)) ⌝ }
 {
     if is_minus(s) {

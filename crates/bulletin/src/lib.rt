@@ -6,6 +6,8 @@ mod putting;
 mod records;
 pub mod taking;
 
+pub use form::is_minus;
+pub use form::past_minus;
 use listing::list_rows;
 use putting::list_right;
 use putting::put_rows;
