@@ -6,6 +6,7 @@ import os
 import re
 import textwrap
 
+import inputs.days
 import inputs.sample
 from erfa.places import ticks_of
 from inputs.damaged import with_word
@@ -100,11 +101,38 @@ def said_of_mistakes(sample):
     return "".join(item + "\n" for item in folded)
 
 
+def days_run(_):
+    """What `days` prints for rows of the published file."""
+    run = inputs.days.short()
+    typed = "$ head -n 8 tests/inputs/finals2000A-2016.txt | ./days %s" % " ".join(run.words)
+    return indented([typed, *inputs.days.outcome(run)[0].decode().splitlines()])
+
+
+def said_of_rows(_):
+    """What `days` says on standard error of mistakes in the words or the rows of the sample run."""
+    words, rows = inputs.days.short()
+    first, second, *rest = rows.splitlines(keepends=True)
+    mistakes = (
+        ("a comma for a point", words, rows.replace(b"0.299494", b"0,299494")),
+        ("a row that was cut", words, first + second[:40] + b"\n" + b"".join(rest)),
+        ("a day at noon", words, rows.replace(b"57364.00", b"57364.50")),
+        ("a day too far", ("57365", *words[1:]), rows),
+        ("x of two arcseconds", words, rows.replace(b"-0.004706", b" 2.004706")),
+        ("TAI-UTC in milliseconds", (*words[:2], "36000", *words[3:]), rows),
+        ("a TAI-UTC forgotten", words[:-1], rows),
+    )
+    made = ((what, inputs.days.outcome(inputs.days.Run(*run))[1].decode().rstrip()) for what, *run in mistakes)
+    folded = (textwrap.fill("- %s: `%s`" % pair, 118, subsequent_indent="  ", break_on_hyphens=False) for pair in made)
+    return "".join(item + "\n" for item in folded)
+
+
 PARTS = {
     "sample-run": sample_run,
     "sample-explained": sample_explained,
     "worked-place": worked_place,
     "said-of-mistakes": said_of_mistakes,
+    "days-run": days_run,
+    "said-of-rows": said_of_rows,
 }
 
 
