@@ -2,6 +2,7 @@
 
 import random
 import re
+from itertools import combinations, islice, product
 from typing import NamedTuple
 
 from lines import line, text
@@ -11,7 +12,8 @@ from reference.whole import within
 
 from . import bulletin as asked
 from . import finals
-from .rows import Case, text_of
+from .rows import FIELDS, Case, text_of
+from .rows import printed as printed_in
 
 NUMBER = re.compile(r"-?[0-9]{1,18}")
 COLUMNS = (bulletin.MJD, *(place[:3] for place in bulletin.VALUES))
@@ -60,12 +62,23 @@ def published():
         yield run_of(Case(tuple(finals.rows()), first, count, (finals.TAI_UTC,) * count))
 
 
+def two_faults():
+    """Two fields blank, in one row or in two: of days that are asked for, of others, and of second rows of a day."""
+    rows = [*finals.rows()[:5], *finals.rows()[1:3]]
+    places = tuple(product(range(len(rows)), FIELDS))
+    for one, other in combinations(places, 2):
+        made = list(rows)
+        for place, field in (one, other):
+            made[place] = printed_in(made[place], field, b"")
+        yield run_of(Case(tuple(made), finals.FIRST_DAY + 1, 3, (finals.TAI_UTC,) * 3))
+
+
 def runs(seed=57_360):
     """Each fourth of the cases that `answers` is asked, where their numbers have 18 digits at most, and words."""
     numbers = random.Random(seed)
     cases = [case for make in asked.READ for case in make(numbers)][::EACH_FOURTH]
     made = [run for run in map(run_of, cases) if all(map(NUMBER.fullmatch, run.words))]
-    return [*words_alone(), *published(), *made]
+    return [*words_alone(), *published(), *islice(two_faults(), 0, None, EACH_FOURTH), *made]
 
 
 # ---- what is said of it
@@ -135,6 +148,11 @@ def reason(number, rows, first, count, tai):
     return of_lacking(split, first, count) if number == 11 else of_value(split, first, count, tai)
 
 
+def printed(count, numbers):
+    """The records, a line each."""
+    return text(line(numbers[5 * i:5 * i + 5]) for i in range(count))
+
+
 def outcome(run):
     """Standard output, standard error and the status that it tells, where nothing is lost."""
     wrong = wrong_word(run.words)
@@ -146,4 +164,4 @@ def outcome(run):
     if number:
         said = rowwords.of_refusal(number, reason(number, rows, first, count, tai))
         return (text(["refused %d" % number]), text([said]), 1)
-    return (text(line(numbers[5 * i:5 * i + 5]) for i in range(count)), b"", 0)
+    return (printed(count, numbers), b"", 0)

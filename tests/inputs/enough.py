@@ -1,10 +1,11 @@
 """The inputs hold what the comparisons need: each refusal and each trap so often, and a fault at each place."""
 
+import re
 from collections import Counter
 from itertools import combinations, permutations, product
 
 import programs
-from reference import session
+from reference import rowwords, session
 
 from . import earth, features, rowtraps, sharing, short
 from .questions import DAYS_FROM_ROWS
@@ -124,6 +125,16 @@ def rows_read_and_written(tally):
     tally.nothing_wrong("enough of rows", too_few(counts, least))
 
 
+def runs_of_days(tally):
+    """Each status and each refusal; each field misprinted, cut off and out of its range."""
+    outcomes = [(wrote.decode(), said.decode(), status) for _, (wrote, said, status) in programs.runs()]
+    counts = Counter(wrote.strip() if status == 1 else "status %d" % status for wrote, _, status in outcomes)
+    least = dict.fromkeys(("status 0", "status 2", *("refused %d" % number for number in (1, 2, 10, 11))), 10)
+    in_rows = [form % field for field in rowwords.FIELDS[:4] for form in (" %s is '", "and %s stands", " %s is -?[0-9]+, ")]
+    said = {form: sum(re.search(form, words) is not None for _, words, _ in outcomes) for form in (*in_rows, "TAI-UTC is ")}
+    tally.nothing_wrong("enough runs of days", too_few({**counts, **said}, {**least, **dict.fromkeys(said, 3)}))
+
+
 def each_kind_of_answer(tally):
     """Each call is asked with an answer and with each number that the documents let it give, and gives no other."""
     counts = Counter(kind for _, kind in short.kinds(programs.all_questions()))
@@ -139,4 +150,5 @@ def run(tally):
     questions_of_earth(tally)
     passes_together(tally)
     rows_read_and_written(tally)
+    runs_of_days(tally)
     each_kind_of_answer(tally)

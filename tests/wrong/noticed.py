@@ -8,11 +8,12 @@ import random
 from unittest.mock import patch
 
 import programs
+from inputs.days import outcome
 from inputs.program import printed
 from inputs.questions import lines_of
 from tally import alone
 
-from . import bulletin, delay, earth, program, rowlists, session, together, track, write
+from . import bulletin, days, delay, earth, program, rowlists, session, together, track, write
 
 WRONG = {
     "earth": earth.WRONG,
@@ -23,7 +24,9 @@ WRONG = {
     "together": together.WRONG,
     "bulletin": (*bulletin.WRONG, *rowlists.WRONG),
     "tracks": program.WRONG,
+    "days": days.WRONG,
 }
+ANSWERS = {"tracks": printed, "days": outcome}
 LONGEST_ROOM, LONGEST_TEXT = 2_100, 3_000
 
 
@@ -31,13 +34,15 @@ def known_of(topic):
     """The inputs of a topic and what is printed for them, without those that take long, in an order that mixes them."""
     if topic == "tracks":
         known = [(file, wrote) for file, wrote in programs.sessions() if len(wrote) < LONGEST_TEXT]
+    elif topic == "days":
+        known = programs.runs()
     else:
         known = [(question, lines) for question, lines in programs.questions(topic) if question.room < LONGEST_ROOM]
     return random.Random(7).sample(known, len(known))
 
 
 def notices(topic, known, owner, name, instead):
-    answer = printed if topic == "tracks" else lines_of
+    answer = ANSWERS.get(topic, lines_of)
     with patch.object(owner, name, instead):
         return any(answer(given) != wanted for given, wanted in known)
 
