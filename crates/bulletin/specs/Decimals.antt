@@ -1,5 +1,5 @@
 -- Document 02, L3: a decimal that fills columns of its own, as the readme's F formats print it. Blanks or none, `-` or nothing, a digit or more, a point, and
--- then p decimals, the last of them in the last column. A list here holds the bytes of these columns.
+-- then p decimals, the last of them in the last column. A list here holds the bytes of these columns, in ASCII: 32 is a blank, 45 `-`, 46 a point.
 use Prim.Native.Nat.{ℕ, zero, suc, _-_, _/_, _%_, _+_, _^_}
 use mathlib.Core.Bool.{Bool, false, cond, _&&_}
 use mathlib.Core.List.{List, [], _∷_, _++_}
@@ -35,6 +35,7 @@ module _ (p : ℕ) (s : List ℕ) where
   abbrev pub decimals : List ℕ
   decimals = drop (length s - p) s
 
+  -- a digit or more before the point, nothing but digits there and behind, and the point between them
   unfoldable pub isDecimal : Bool
   isDecimal = ltb 0 (length wholeDigits) && (allDigits wholeDigits && (eqb (getD s (length s - suc p) 0) 46 && allDigits decimals))
 

@@ -63,12 +63,13 @@ module _ (text : List ℕ) (first count : ℤ) where
     abbrev pub recordOf : ℕ → Day
     recordOf k = recordFor text (first +ℤ pos k) (getD tai k (pos 0))
 
+    -- first day and count are in their ranges, there is a TAI-UTC for each day, and each field of a record is in its range
     unfoldable pub valuesRight : Bool
     valuesRight = inside mjd first && (inside dayCount count && (eqZ (pos (length tai)) count && allBelow (posPart count) (λ (k : ℕ). inRanges (recordOf k))))
 
     -- the refusal: the first of these that applies
     unfoldable pub daysNumber : ℕ
-    daysNumber = firstOf (unless (leb (length text) 65536) 1 ∷ unless (allDated text && takenFilled) 10 ∷ unless daysThere 11 ∷ unless valuesRight 2 ∷ [])
+    daysNumber = firstOf (unless (leb (length text) 65_536) 1 ∷ unless (allDated text && takenFilled) 10 ∷ unless daysThere 11 ∷ unless valuesRight 2 ∷ [])
 
     -- the records, and zeros behind the last
     unfoldable pub records : List ℤ

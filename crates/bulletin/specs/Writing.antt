@@ -18,7 +18,7 @@ use Rattle.fields.specs.Ranges.{inside}
 use Rattle.bulletin.specs.Columns.{mjdColumns, xColumns, yColumns, ut1Columns, withDecimal}
 use Rattle.bulletin.specs.Reading.{dayCount, inRanges}
 
--- ---- the row of a record: 185 columns and a line feed, blank but for the four decimals
+-- ---- the row of a record: 185 columns and a line feed, blank but for the four decimals, in the units that the columns have
 
 abbrev pub blankRow : List ℕ
 blankRow = replicate 185 32 ++ (10 ∷ [])
@@ -42,6 +42,7 @@ abbrev pub written : Number → List ℕ → Written
 written r after = record { answer = r; room = after }
 
 module _ (numbers : List ℤ) where
+  -- how many records there are, and record i
   abbrev pub recordsIn : ℕ
   recordsIn = length numbers / 5
 
@@ -52,6 +53,7 @@ module _ (numbers : List ℤ) where
   unfoldable pub listRight : Bool
   listRight = eqb (5 * recordsIn) (length numbers) && (inside dayCount (pos recordsIn) && allBelow recordsIn (λ (i : ℕ). canStand (recordAt i)))
 
+  -- a row for each, one behind the other
   unfoldable pub rowsText : List ℕ
   rowsText = joined recordsIn (λ (i : ℕ). rowFor (recordAt i))
 

@@ -11,6 +11,7 @@ pub use form::past_minus;
 use listing::list_rows;
 use putting::list_right;
 use putting::put_rows;
+pub use records::DAY_COUNT;
 use records::records_of;
 use records::values_in_range;
 use taking::days_there;

@@ -8,6 +8,7 @@ use crate::faults::first_out;
 use crate::faults::range_of;
 use crate::faults::value_of;
 use crate::faults::walk;
+use bulletin::DAY_COUNT;
 use bulletin::layout::Columns;
 use bulletin::layout::MJD;
 use bulletin::layout::holds_decimal;
@@ -22,9 +23,6 @@ use fields::ranges::Range;
 use fields::ranges::inside;
 use text::lines::line_of;
 use whole::sign::number;
-
-// How many days may be asked for.
-const DAY_COUNT: Range = Range { low: 2, high: 64 };
 
 // The name of a field, as of a session file.
 fn say_name(field: usize) {
