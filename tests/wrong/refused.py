@@ -63,15 +63,21 @@ def fresh(crate, edit):
     return os.path.getmtime(log_path(crate, edit)) >= max(map(os.path.getmtime, files))
 
 
+def proofs_of(function):
+    """Where a function's proof may stand: that of one which calls itself has a + before its name."""
+    *modules, name = function.split("::")
+    return ["/".join(["proofs", *modules, mark + name, "Proof.antt"]) for mark in ("", "+")]
+
+
 def first_error(log, wrong):
     """The place of the first error that is the function's own, or None."""
     verdict = re.search(r"^fn %s: (.*)$" % re.escape(wrong.crate + "::" + wrong.function), log, re.MULTILINE)
     law = wrong.function.endswith(".antt")
     if not law and (verdict is None or verdict.group(1) == "proved"):
         return None
-    own = wrong.function if law else "proofs/%s/Proof.antt" % wrong.function.replace("::", "/")
+    own = [wrong.function] if law else proofs_of(wrong.function)
     for path, place, words in ERROR.findall(log):
-        if path == own and "was not admitted" not in words:
+        if path in own and "was not admitted" not in words:
             return place
     closed = None if law else SEARCH.search(verdict.group(1))
     return closed and closed.group(1)
