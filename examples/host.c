@@ -1,8 +1,9 @@
 /*
  * What a correlator's host does with a session file: examples/run-host builds and runs it on the sample session. It
  * prints the first pass's samples and its track, the prediction at its middle sample, the first segment of every pass
- * from all tracks in one call, and where the fault of a damaged copy lies. A file that cannot be read, or is refused,
- * or has a pass that is refused, ends it with a status that is not 0; of a refused file it prints where the fault lies.
+ * from all tracks in one call, the session's days as rows of finals2000A, and where the fault of a damaged copy lies. A
+ * file that cannot be read, or is refused, or has a pass that is refused, ends it with a status that is not 0; of a
+ * refused file it prints where the fault lies.
  */
 #include <erlensieg.h>
 #include <errno.h>
@@ -103,6 +104,37 @@ static int print_tracks(size_t bytes, int64_t passes)
 	return 1;
 }
 
+/* the days of the session as numbers, with the tide put back into UT1-UTC: rows hold full UT1 */
+static void published_days(size_t bytes, int64_t count, int64_t *days, int64_t *tai_utc)
+{
+	for (int64_t i = 0; i < count; i++) {
+		struct fringe_day day = fringe_day_at(file, bytes, (size_t)i);
+		int64_t *numbers = days + FRINGE_DAY_NUMBERS * i;
+		numbers[0] = day.mjd;
+		numbers[1] = day.x;
+		numbers[2] = day.y;
+		numbers[3] = day.ut1_utc + fringe_tide(day.mjd, 0, day.tai_utc).value;
+		numbers[4] = tai_utc[i] = day.tai_utc;
+	}
+}
+
+/* the days as rows, as far as columns are used, and whether they are read back as the same numbers */
+static void print_rows(size_t bytes, int64_t count)
+{
+	static int64_t days[FRINGE_MOST_DAYS_NUMBERS], tai_utc[FRINGE_MOST_DAYS];
+	static uint8_t rows[FRINGE_MOST_ROWS_BYTES];
+	published_days(bytes, count, days, tai_utc);
+	struct fringe_number made = fringe_rows_from_days(days, FRINGE_DAY_NUMBERS * (size_t)count, rows, sizeof rows);
+	if (refused("rows of the days", made.refusal))
+		return;
+	for (int64_t i = 0; i < count; i++)
+		printf("row%.68s\n", (const char *)rows + FRINGE_ROW_BYTES * i);
+	struct fringe_days read =
+		fringe_days_from_rows(rows, (size_t)made.value, days[0], count, tai_utc, (size_t)count);
+	if (!refused("days of the rows", read.refusal))
+		printf("read back: %s days\n", memcmp(read.days, days, sizeof days) ? "other" : "the same");
+}
+
 /* where the fault of a copy lies whose first station has no id */
 static void damage(size_t bytes)
 {
@@ -133,6 +165,7 @@ int main(int count, char **words)
 	size_t numbers = taken ? print_track(bytes, taken) : 0;
 	if (!numbers || !print_prediction(numbers, taken / 2) || !print_tracks(bytes, counts.passes))
 		return 1;
+	print_rows(bytes, counts.days);
 	damage(bytes);
 	return 0;
 }

@@ -7,7 +7,7 @@ from c import header
 from c.compiler import RUNNER, compiled
 from c.names import words
 from rattle import ROOT
-from reference import delay, session, together, track
+from reference import bulletin, delay, earth, session, together, track
 from scripts.ran import SESSION, contents, ran, refuses, unreadable, without_rt
 
 INSTALL = os.path.join(ROOT, "examples", "install")
@@ -36,6 +36,16 @@ def tracks_lines(file):
         yield from ("pass %d: %d segments" % (i, count), "segment %d %d %d %d" % tuple(room[first:first + 4]))
 
 
+def rows_lines(file):
+    """What examples/host.c prints of the days as rows, which hold UT1 with the tide."""
+    numbers = []
+    for mjd, x, y, ut1, tai in session.sections_of(file)[delay.DAYS]:
+        numbers += [mjd, x, y, ut1 + earth.tide(mjd, 0, tai)[1], tai]
+    rows = bulletin.rows_of(bulletin.text_of(numbers))
+    yield from ("row" + row[:68].decode() for row in rows)
+    yield "read back: the same days"
+
+
 def example_prints(file):
     """What examples/host.c prints for an accepted file of which no pass is refused."""
     lists = session.sections_of(file)
@@ -49,7 +59,8 @@ def example_prints(file):
     lines += ["%d samples, tolerance %d ps: %d segments" % (len(samples), planned[7], len(segments))]
     lines += ["segment %d %d %d %d" % segment for segment in segments]
     lines += ["prediction at sample %d: %d ps, %.15g s, %.15g cycles" % (middle, ps, *record)]
-    return text([*lines, *tracks_lines(file), *fault_lines("damaged copy", file[:104] + bytes(8) + file[112:])])
+    lines += [*tracks_lines(file), *rows_lines(file)]
+    return text([*lines, *fault_lines("damaged copy", file[:104] + bytes(8) + file[112:])])
 
 
 def run_host(tally):
