@@ -1,5 +1,5 @@
 -- What is proved of the days asked for, as the code tests a day. Assumes nothing.
-use mathlib.Core.Path.{_≡_, refl, sym, ap, _∙_}
+use mathlib.Core.Path.{_≡_, sym, ap, _∙_}
 use mathlib.Core.Bool.{Bool, true, false, _&&_}
 use Prim.Native.Nat.{_≤_}
 use native.Mathlib.Omega.{arith}
@@ -7,8 +7,8 @@ use lib.IntN.{ℤ, pos, _+ℤ_, _-ℤ_}
 use lib.Signed.{leZ, ltZ}
 use mir.Syntax.{w64}
 use mir.Val.{SFits}
-use Rattle.whole.specs.Whole.{posPart, negPart, ∣_∣}
-use Rattle.whole.proofs.Linear.{zarith, known, add-law, sub-lawℤ, leZ-true, leZ-false, ltZ-true, ltZ-false, fits! }
+use Rattle.whole.specs.Whole.{∣_∣}
+use Rattle.whole.proofs.Linear.{known, add-law, sub-lawℤ, leZ-true, leZ-false, ltZ-true, ltZ-false, fits! }
 use Rattle.whole.proofs.Order.{not-so, le-yes, le-no, lt-yes}
 use Rattle.whole.proofs.Tests.{no-and, and-no, same-test}
 use Rattle.bulletin.specs.Reading.{asked}

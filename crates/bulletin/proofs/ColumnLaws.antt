@@ -1,20 +1,19 @@
 -- What is proved of columns of a row, as the code cuts them. Assumes nothing.
-use mathlib.Core.Path.{_≡_, refl, sym, ap, _∙_}
-use mathlib.Core.Bool.{Bool, true, false, _&&_}
+use mathlib.Core.Path.{_≡_, sym, ap, _∙_}
+use mathlib.Core.Bool.{true, false}
 use mathlib.Core.List.{List}
 use Prim.Native.Nat.{ℕ, suc, _+_, _-_, _^_, _≤_, _<_}
-use native.Mathlib.Nat.{pow-le-pow-right}
 use native.Mathlib.Omega.{arith}
 use borrow.Author.Tests.{lt-leb, le-leb, leb-true}
 use lib.Dec.{leb}
-use lib.ListN.{length, take, drop, length-take, length-drop}
+use lib.ListN.{length, take, drop, length-drop}
 use lib.Seq.{length-take-le}
 use Rattle.whole.specs.Whole.{∣_∣}
 use Rattle.whole.proofs.Linear.{and-true}
 use Rattle.whole.proofs.Tests.{no-and}
 use Rattle.bulletin.specs.declared.layout.Columns.{Columns}
 use Rattle.bulletin.specs.Columns.{mjdColumns, xColumns, yColumns, ut1Columns, bytesIn, holdsDecimal, valueIn}
-use Rattle.bulletin.specs.Decimals.{isDecimal, unitsOf}
+use Rattle.bulletin.specs.Decimals.{isDecimal}
 use Rattle.bulletin.specs.Code.{Apt}
 use Rattle.bulletin.proofs.FormLaws.{units-small}
 

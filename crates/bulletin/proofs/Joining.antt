@@ -1,6 +1,6 @@
 -- Records that are put into an array of zeros one behind the other. Assumes nothing.
-use mathlib.Core.Path.{_≡_, refl, sym, ap, ap₂, _∙_}
-use mathlib.Core.List.{List, [], _∷_, _++_}
+use mathlib.Core.Path.{_≡_, sym, ap, ap₂, _∙_}
+use mathlib.Core.List.{List, _++_}
 use Prim.Native.Nat.{ℕ, zero, suc, _+_, _-_, _*_, _≤_, _<_}
 use native.Mathlib.Nat.{zero-add, suc-add}
 use native.Mathlib.Numerals.{add-one}
@@ -21,7 +21,7 @@ module _ (f : ℕ → List ℤ) (each : (i : ℕ) → length (f i) ≡ 5) (k : �
   unfolding joined
   store-next =
       let l = joined k f ++ replicate (320 - 5 * k) (pos 0) in
-      let n : length (joined k f) ≡ 5 * k = joined-even f 5 k each in
+      let n : length (joined k f) ≡ 5 * k = joined-even f 5 k (λ i l. each i) in
       let m : 320 - 5 * k ≡ 5 + (320 - 5 * (k + 1)) = omega arith in
       let a : 5 * k + length (f k) ≡ length (joined k f) + 5 = omega (arith, each k, n) in
       let e : 5 * k + length (f k) ≤ length l = omega (arith, each k, n, length-append (joined k f) (replicate (320 - 5 * k) (pos 0)), length-replicate (320 - 5 * k) (pos 0)) in

@@ -9,10 +9,9 @@ use native.Mathlib.Decide.{ℕ-discrete}
 use lib.ListN.{length, getD, set, take, drop, length-drop, length-set, length-map}
 use lib.Seq.{drop-cons, getD-set-same, getD-set-other, getD-take, length-take-le, ext-getD}
 use lib.IntN.{ℤ, pos}
-use Rattle.whole.specs.Each.{allBelow}
 use Rattle.whole.proofs.Each.{below-all, below-fails}
 use Rattle.text.specs.Lines.{firstLine}
-use Rattle.text.proofs.LineFeeds.{end-most, part-is}
+use Rattle.text.proofs.LineFeeds.{part-is}
 use Rattle.bulletin.specs.Rows.{rowsOf, rowAt, hasDay, dayIn, daysOf}
 use Rattle.bulletin.specs.Reading.{allDated}
 use Rattle.bulletin.specs.Code.{Stands, Listed}

@@ -17,7 +17,7 @@ use Rattle.whole.proofs.Each.{below-all}
 use Rattle.whole.proofs.Order.{eqZ-refl}
 use Rattle.whole.proofs.Quote.{of≡, #, ⟨_⟩, _⊕_}
 use Rattle.whole.proofs.Tests.{and-yes}
-use Rattle.whole.proofs.Values.{values-long, value-at, joined-same}
+use Rattle.whole.proofs.Values.{values-long, value-at, joined-even, joined-same}
 use Rattle.text.proofs.Puts.{put-start}
 use Rattle.fields.specs.Ranges.{mjd}
 use Rattle.fields.specs.Records.{dayFrom}
@@ -30,7 +30,7 @@ use Rattle.bulletin.specs.Promises.{RowsPromise}
 use Rattle.bulletin.specs.ReadBack.{Reads, rowOf, firstDay, taiOf, Consecutive, TextBack, ReadBack}
 use Rattle.bulletin.proofs.ListingLaws.{map-at}
 use Rattle.bulletin.proofs.RowRead.{row-reads}
-use Rattle.bulletin.proofs.RowText.{rows-long, row-long}
+use Rattle.bulletin.proofs.RowText.{row-long}
 use Rattle.bulletin.proofs.RowsAnswer.{accepted, not-refused, rows-right}
 use Rattle.bulletin.proofs.Standing.{stands-in, stands-ranges, right-long, right-count, right-stands}
 use Rattle.bulletin.proofs.TextRead.{ones-long, ones-at, text-is-read, first-at}
@@ -84,7 +84,7 @@ module _ (numbers : List ℤ) (r : listRight numbers ≡ true) where
 
   text-long : length text ≡ 186 * n
   unfolding rowsText
-  text-long = rows-long (λ (i : ℕ). rowFor (recordAt numbers i)) n (λ i l. row-long (recordAt numbers i) (stands i l))
+  text-long = joined-even (λ (i : ℕ). rowFor (recordAt numbers i)) 186 n (λ i l. row-long (recordAt numbers i) (stands i l))
 
   -- ---- of consecutive days
 

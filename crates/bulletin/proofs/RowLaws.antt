@@ -1,15 +1,14 @@
 -- What is proved of the rows of a text, and of the day of a row. Assumes nothing.
 use mathlib.Core.Path.{_≡_, refl, sym, ap, _∙_}
-use mathlib.Core.Bool.{Bool, true, false, _&&_}
-use mathlib.Core.List.{List, [], _∷_, _++_, map, append-assoc, append-nil}
-use Prim.Native.Nat.{ℕ, zero, suc, _+_, _-_, _*_, _%_, _^_, _≤_, _<_}
+use mathlib.Core.Bool.{Bool, true, false}
+use mathlib.Core.List.{List, [], _∷_, _++_, append-assoc, append-nil}
+use Prim.Native.Nat.{ℕ, suc, _+_, _-_, _%_, _≤_, _<_}
 use native.Mathlib.Omega.{arith}
-use borrow.Author.Tests.{eq-eqb, ne-eqb, eqb-true}
+use borrow.Author.Tests.{eq-eqb, eqb-true}
 use lib.Dec.{eqb}
-use lib.ListN.{length, getD, take, drop, length-drop}
-use lib.Seq.{drop-drop}
+use lib.ListN.{length, drop, length-drop}
 use lib.IntN.{ℤ, pos, negsuc}
-use Rattle.whole.specs.Whole.{∣_∣, floorZ, modZ}
+use Rattle.whole.specs.Whole.{∣_∣, modZ}
 use Rattle.whole.proofs.Linear.{and-true}
 use Rattle.whole.proofs.Tests.{same-test}
 use Rattle.whole.proofs.Rounding.{floor-abs}

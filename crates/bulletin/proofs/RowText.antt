@@ -2,15 +2,16 @@
 use mathlib.Core.Path.{_≡_, refl, sym, ap, _∙_}
 use mathlib.Core.Bool.{true}
 use mathlib.Core.List.{List, [], _∷_, _++_}
-use Prim.Native.Nat.{ℕ, zero, suc, _+_, _-_, _*_, _/_, _^_, _≤_, _<_}
+use Prim.Native.Nat.{ℕ, suc, _+_, _-_, _*_, _/_, _^_, _≤_, _<_}
 use native.Mathlib.Decide.{decLt}
 use native.Mathlib.Omega.{arith}
 use lib.Dec.{lit≤}
-use lib.ListN.{length, getD, replicate, length-append, getD-replicate, List·getD-append}
+use lib.ListN.{length, getD, replicate, getD-replicate, List·getD-append}
 use lib.IntN.{ℤ, pos, negsuc, _*ℤ_}
 use Rattle.whole.specs.Whole.{∣_∣, floorZ}
 use Rattle.whole.specs.Values.{joined}
 use Rattle.whole.proofs.Linear.{and-true}
+use Rattle.whole.proofs.Values.{joined-even}
 use Rattle.text.specs.Bytes.{pasted}
 use Rattle.text.specs.Decimal.{isDigit, allDigits, digitsOf}
 use Rattle.text.proofs.Paste.{pasted-next}
@@ -160,14 +161,9 @@ module _ (d : Day) (e : canStand d ≡ true) where
 
 -- ---- rows one behind the other, from the start of a room
 
-pub rows-long : (f : ℕ → List ℕ) (n : ℕ) → ((i : ℕ) → i < n → length (f i) ≡ 186) → length (joined n f) ≡ 186 * n
-unfolding joined
-rows-long f zero e = refl
-rows-long f (suc n) e = length-append (joined n f) (f n) ∙ omega (arith, rows-long f n (λ i l. e i (omega arith)), e n (omega arith))
-
 pub rows-next : (room : List ℕ) (f : ℕ → List ℕ) (n : ℕ) → ((i : ℕ) → i < n → length (f i) ≡ 186) → 186 * n ≤ length room
     → pasted (pasted room 0 (joined n f)) (186 * n) (f n) ≡ pasted room 0 (joined (suc n) f)
 unfolding joined
 rows-next room f n e h =
-    let l : 186 * n ≡ 0 + length (joined n f) = omega (arith, rows-long f n e) in
+    let l : 186 * n ≡ 0 + length (joined n f) = omega (arith, joined-even f 186 n e) in
     ap (λ (k : ℕ). pasted (pasted room 0 (joined n f)) k (f n)) l ∙ pasted-next room 0 (joined n f) (omega (arith, l)) (f n)

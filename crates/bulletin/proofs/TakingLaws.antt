@@ -1,21 +1,20 @@
 -- What is proved of the rows that are taken, from the list of rows. Assumes nothing.
-use mathlib.Core.Path.{_≡_, refl, sym, ap, _∙_}
-use mathlib.Core.Bool.{Bool, true, false, _&&_}
+use mathlib.Core.Path.{_≡_, sym, ap, _∙_}
+use mathlib.Core.Bool.{true, false}
 use mathlib.Core.List.{List, []}
-use Prim.Native.Nat.{ℕ, _+_, _≤_, _<_}
+use Prim.Native.Nat.{ℕ, _+_, _<_}
 use native.Mathlib.Omega.{arith}
-use borrow.Author.Tests.{eq-eqb, ne-eqb, lt-ltb, ltb-true}
-use lib.Dec.{eqb, ltb}
+use borrow.Author.Tests.{eq-eqb, ne-eqb, ltb-true}
+use lib.Dec.{ltb}
 use lib.ListN.{length, getD, length-map}
 use lib.IntN.{ℤ, pos, negsuc, _+ℤ_}
-use lib.Signed.{leZ, ltZ}
-use Rattle.whole.specs.Whole.{posPart, ∣_∣}
+use Rattle.whole.specs.Whole.{posPart}
 use Rattle.whole.specs.Each.{allBelow, implies}
 use Rattle.whole.proofs.Each.{below-each, all-same}
 use Rattle.whole.proofs.Linear.{add-law}
 use Rattle.whole.proofs.Order.{le-yes, lt-yes}
 use Rattle.whole.proofs.Tests.{and-yes}
-use Rattle.bulletin.specs.Rows.{rowsOf, rowAt, hasDay, dayIn, isFilled, daysOf, firstIn}
+use Rattle.bulletin.specs.Rows.{rowsOf, rowAt, dayIn, isFilled, daysOf, firstIn}
 use Rattle.bulletin.specs.Reading.{asked, isTaken, takenFilled, daysThere}
 use Rattle.bulletin.specs.Code.{Near, Listed, Ready}
 use Rattle.bulletin.proofs.RowLaws.{day-small}

@@ -6,7 +6,7 @@ use lib.IntN.{ℤ}
 use Rattle.whole.specs.declared.Number.{Number}
 use Rattle.bulletin.specs.declared.Days.{Days}
 use Rattle.bulletin.specs.Reading.{daysOutcome}
-use Rattle.bulletin.specs.Writing.{Written, written, rowsOutcome}
+use Rattle.bulletin.specs.Writing.{written, rowsOutcome}
 
 abbrev pub DaysPromise : List ℕ → ℤ → ℤ → List ℤ → Days → Type 0
 DaysPromise text first count tai r = r ≡ daysOutcome text first count tai

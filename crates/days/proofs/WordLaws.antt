@@ -1,5 +1,5 @@
 -- What is proved of words: 18 digits fit 64 bits. Assumes nothing.
-use mathlib.Core.Path.{_≡_, refl, sym, ap, subst, _∙_}
+use mathlib.Core.Path.{_≡_, subst}
 use mathlib.Core.Bool.{true, false}
 use mathlib.Core.List.{List, [], _∷_}
 use Prim.Native.Nat.{ℕ, _+_, _*_, _-_, _^_, _≤_, _<_}
@@ -13,7 +13,6 @@ use Rattle.whole.proofs.Linear.{and-true}
 use Rattle.text.specs.Decimal.{isDigit, allDigits, readFrom, read}
 use Rattle.text.proofs.Reading.{digit-in, next-below, zero-below}
 use Rattle.days.specs.Words.{fewDigits, isNumber, numberOf, parsedOf}
-use Rattle.days.specs.declared.words.Parsed.{Parsed}
 
 read-below : (s : List ℕ) (n i : ℕ) → allDigits s ≡ true → n < 10 ^ i → readFrom n s < 10 ^ (i + length s)
 unfolding allDigits readFrom

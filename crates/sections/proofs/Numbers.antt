@@ -1,19 +1,18 @@
 -- Tests on whole numbers, as the code makes them. Assumes nothing.
 use mathlib.Core.Path.{_≡_, refl}
-use Prim.Native.Nat.{ℕ, _+_, _-_, _≤_, _<_}
+use Prim.Native.Nat.{ℕ, _+_, _-_}
 use native.Mathlib.Omega.{arith}
-use mathlib.Core.Bool.{Bool, true, false, _&&_, and-true as and-right-true}
+use mathlib.Core.Bool.{true, false, _&&_, and-true as and-right-true}
 use lib.IntN.{ℤ, pos, _+ℤ_, _-ℤ_}
 use lib.Signed.{leZ, ltZ}
 use borrow.Author.Tests.{ne-eqb}
 use mir.Syntax.{w64}
 use mir.Val.{SFits}
-use Rattle.whole.specs.Whole.{posPart, negPart}
-use Rattle.whole.proofs.Linear.{add-law, sub-lawℤ, leZ-true, leZ-false, ⇒leZ, ⇒ltZ, ⇒eq, fits-posPart, fits-negPart, ⇒sfits, and-true}
+use Rattle.whole.proofs.Linear.{add-law, sub-lawℤ, leZ-true, leZ-false, fits-posPart, fits-negPart, ⇒sfits, and-true}
 use Rattle.whole.specs.Ranges.{eqZ}
 use Rattle.sections.specs.File.{steps}
-use Rattle.whole.proofs.Order.{not-so, le-yes, le-no, lt-yes}
-use Rattle.whole.proofs.Tests.{is-true, and-yes, same-test}
+use Rattle.whole.proofs.Order.{not-so, le-yes}
+use Rattle.whole.proofs.Tests.{and-yes, same-test}
 
 -- ---- b is the number after a
 

@@ -68,10 +68,10 @@ sample-at n f rest j h = List·getD-append (firstValues n f) rest (pos 0) j (rw 
 
 -- ---- lists joined: how long they are, where each is as long
 
-pub joined-even : {A : Type 0} (f : ℕ → List A) (size n : ℕ) → ((i : ℕ) → length (f i) ≡ size) → length (joined n f) ≡ size * n
+pub joined-even : {A : Type 0} (f : ℕ → List A) (size n : ℕ) → ((i : ℕ) → i < n → length (f i) ≡ size) → length (joined n f) ≡ size * n
 unfolding joined
 joined-even f size zero e = sym (mul-zero size)
-joined-even f size (suc n) e = length-append (joined n f) (f n) ∙ omega (arith, joined-even f size n e, e n)
+joined-even f size (suc n) e = length-append (joined n f) (f n) ∙ omega (arith, joined-even f size n (λ i l. e i (omega arith)), e n (omega arith))
 
 -- lists that are the same
 pub joined-same : {A : Type 0} (f g : ℕ → List A) (n : ℕ) → ((i : ℕ) → i < n → f i ≡ g i) → joined n f ≡ joined n g

@@ -69,7 +69,7 @@ module _ {t : Table} (g : Good t) (s : List ℕ) (h : refusalBy t s ≡ 0) (k : 
       run-both s 0 (4 ∷ []) (joined 4 (entryFor t k ls)) head
       (run-joined s (0 + 1) (entryFor t k ls) 4
       (λ p l j m.
-      let e : 3 * p + 1 + j ≡ 0 + 1 + length (joined p (entryFor t k ls)) + j = omega (arith, joined-even (entryFor t k ls) 3 p (λ q. refl)) in
+      let e : 3 * p + 1 + j ≡ 0 + 1 + length (joined p (entryFor t k ls)) + j = omega (arith, joined-even (entryFor t k ls) 3 p (λ q l. refl)) in
       entry p l j m ∙ ap (word s) e))
 
   bodies-run : Bytes s → Run s 13 (bodies ls 4)

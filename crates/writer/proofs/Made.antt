@@ -53,7 +53,7 @@ module _ {t : Table} (g : Good t) (k : Kinds) (ls : List (List ℤ)) where
   module _ (p : ℕ) (l : p < 4) where
     entry-made : (j i : ℕ) → j < 3 → i ≡ 3 * p + 1 + j → word (fileOf t k ls) i ≡ getD (entryFor t k ls p) j 0
     entry-made j i m e =
-        let d : i ≡ 0 + 1 + length (joined p (entryFor t k ls)) + j = omega (arith, joined-even (entryFor t k ls) 3 p (λ q. refl)) in
+        let d : i ≡ 0 + 1 + length (joined p (entryFor t k ls)) + j = omega (arith, joined-even (entryFor t k ls) 3 p (λ q l. refl)) in
         ap (word (fileOf t k ls)) d
         ∙ sym (run-part (fileOf t k ls) (0 + 1) (entryFor t k ls) 4 p l (run-second (fileOf t k ls) 0 (4 ∷ []) (joined 4 (entryFor t k ls)) table) j m)
 

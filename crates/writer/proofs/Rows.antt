@@ -29,7 +29,7 @@ joined-values size (suc n) f g e =
 
 pub rows-long : (t : Table) (s : List ℕ) (p : ℕ) → length (rowsIn t s p) ≡ sizeOf t s p * countOf s p
 unfolding rowsIn
-rows-long t s p = joined-even (λ (i : ℕ). firstValues (sizeOf t s p) (fieldAt t s p i)) (sizeOf t s p) (countOf s p) (λ i. values-long (sizeOf t s p) (fieldAt t s p i))
+rows-long t s p = joined-even (λ (i : ℕ). firstValues (sizeOf t s p) (fieldAt t s p i)) (sizeOf t s p) (countOf s p) (λ i l. values-long (sizeOf t s p) (fieldAt t s p i))
 
 -- those of place p, whose body starts at word at
 pub rows-values : (t : Table) (s : List ℕ) (p at n : ℕ) → firstByte s p ≡ 8 * at → sizeOf t s p * countOf s p ≡ n

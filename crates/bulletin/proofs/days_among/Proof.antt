@@ -1,13 +1,12 @@
 -- `bulletin::days_among` meets its contract: the tests come in the order of their numbers. Assumes nothing.
 use borrow.Author.Needs.{needs}
 use mathlib.Core.Path.{_≡_, sym, ap, _∙_}
-use mathlib.Core.Bool.{Bool, true, _&&_}
-use Prim.Native.Nat.{ℕ}
+use mathlib.Core.Bool.{true, _&&_}
 use native.Mathlib.Omega.{arith}
 use borrow.Author.Tests.{le-leb}
 use lib.Dec.{leb}
 use lib.ListN.{length}
-use lib.IntN.{ℤ, pos}
+use lib.IntN.{pos}
 use Rattle.whole.specs.Ranges.{eqZ}
 use Rattle.whole.proofs.Each.{below-all}
 use Rattle.whole.proofs.Linear.{back}
@@ -15,7 +14,6 @@ use Rattle.whole.proofs.Tests.{passed, failed}
 use Rattle.fields.specs.Ranges.{inside, mjd}
 use Rattle.bulletin.specs.Rows.{rowsOf}
 use Rattle.bulletin.specs.Reading.{dayCount, allDated, takenFilled, daysThere}
-use Rattle.bulletin.specs.Code.{Listed, Ready}
 use Rattle.bulletin.proofs.TakingLaws.{listed-long, near, there-by}
 use Rattle.bulletin.proofs.DaysLaws.{some-unfilled, some-missing, values-wrong, count-is, few-days, first-small, values-given}
 use Rattle.bulletin.proofs.days_among.Statement.{statement}

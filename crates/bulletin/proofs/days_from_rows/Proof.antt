@@ -1,15 +1,12 @@
 -- `bulletin::days_from_rows` meets its contract. Assumes nothing.
 use borrow.Author.Needs.{needs}
-use mathlib.Core.Path.{_≡_, sym, ap, _∙_}
-use mathlib.Core.Bool.{true, false}
-use mathlib.Core.List.{List}
-use Prim.Native.Nat.{ℕ, _-_, _≤_}
+use mathlib.Core.Path.{_≡_, sym, _∙_}
+use Prim.Native.Nat.{_-_, _≤_}
 use native.Mathlib.Omega.{arith}
 use borrow.Author.Tests.{lt-leb, le-leb, not-false}
-use lib.Dec.{leb}
-use lib.ListN.{length, take}
+use lib.ListN.{length}
 use Rattle.whole.proofs.Linear.{back}
-use Rattle.whole.proofs.Tests.{passed, failed}
+use Rattle.whole.proofs.Tests.{failed}
 use Rattle.bulletin.proofs.DaysLaws.{too-long, some-undated}
 use Rattle.bulletin.proofs.days_from_rows.Statement.{statement}
 use Rattle.bulletin.proofs.days_from_rows.Tie as tie

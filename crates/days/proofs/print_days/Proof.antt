@@ -1,11 +1,10 @@
 -- `days::print_days` writes the text of the answer, and answers its number.
-use mathlib.Core.Path.{_≡_, sym, ap, ap₂, _∙_}
+use mathlib.Core.Path.{sym, ap₂, _∙_}
 use lib.IntN.{ℤ}
 use lib.Seq.{length-take-le}
 use Rattle.whole.proofs.Linear.{back, ret}
 use Rattle.text.proofs.Puts.{put-inside, put-start}
 use Rattle.bulletin.specs.Reading.{daysOutcome}
-use Rattle.days.specs.Text.{daysText}
 use borrow.Author.Needs.{needs}
 use Rattle.days.proofs.print_days.Statement.{statement}
 use Rattle.days.proofs.print_days.Tie as tie

@@ -1,7 +1,6 @@
 -- `bulletin::form::is_minus` meets its contract. Assumes nothing.
 use borrow.Author.Needs.{needs}
 use mathlib.Core.Path.{sym}
-use native.Mathlib.Omega.{arith}
 use Rattle.bulletin.proofs.FormLaws.{minus-none, minus-some}
 use Rattle.bulletin.proofs.form.is_minus.Statement.{statement}
 use Rattle.bulletin.proofs.form.is_minus.Tie as tie

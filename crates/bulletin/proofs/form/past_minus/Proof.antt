@@ -1,6 +1,6 @@
 -- `bulletin::form::past_minus` meets its contract. Assumes nothing.
 use borrow.Author.Needs.{needs}
-use mathlib.Core.Path.{_≡_, sym, _∙_}
+use mathlib.Core.Path.{sym, _∙_}
 use native.Mathlib.Omega.{arith}
 use Rattle.bulletin.specs.Decimals.{isMinus, pastMinus}
 use Rattle.bulletin.proofs.FormLaws.{rest-is, minus-yes, minus-no, minus-long}

@@ -1,15 +1,14 @@
 -- `bulletin::form::units_of` meets its contract: the digits before the point are read, and on from them those behind it. Assumes nothing.
 use borrow.Author.Needs.{needs}
 use mathlib.Core.Path.{_≡_, sym, ap, ap₂, _∙_}
-use mathlib.Core.List.{List}
-use Prim.Native.Nat.{ℕ, suc, _+_, _-_, _^_, _≤_, _<_}
+use Prim.Native.Nat.{suc, _-_, _≤_}
 use native.Mathlib.Nat.{pow-le-pow-right}
 use native.Mathlib.Omega.{arith}
 use lib.ListN.{length}
 use Rattle.whole.specs.Whole.{signOf}
 use Rattle.whole.proofs.Linear.{ret}
 use Rattle.text.specs.Decimal.{allDigits, readFrom, read}
-use Rattle.bulletin.specs.Decimals.{pastBlanks, isMinus, pastMinus, signed, wholeDigits, decimals, unitsOf}
+use Rattle.bulletin.specs.Decimals.{pastBlanks, isMinus, pastMinus, signed, wholeDigits, decimals}
 use Rattle.bulletin.proofs.FormLaws.{front-is, back-is, decimals-long, parts, whole-short, whole-below, all-below, units-are}
 use Rattle.bulletin.proofs.form.units_of.Statement.{statement}
 use Rattle.bulletin.proofs.form.units_of.Tie as tie

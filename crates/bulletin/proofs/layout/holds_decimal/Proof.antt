@@ -5,7 +5,7 @@ use native.Mathlib.Omega.{arith}
 use Prim.Native.Nat.{_≤_}
 use lib.ListN.{length}
 use Rattle.bulletin.specs.Decimals.{isDecimal}
-use Rattle.bulletin.proofs.ColumnLaws.{bytes-are, bytes-wide, short-row, long-row}
+use Rattle.bulletin.proofs.ColumnLaws.{bytes-are, short-row, long-row}
 use Rattle.bulletin.proofs.layout.holds_decimal.Statement.{statement}
 use Rattle.bulletin.proofs.layout.holds_decimal.Tie as tie
 

@@ -1,6 +1,6 @@
 -- `bulletin::listing::day_in` meets its contract. Assumes nothing.
 use borrow.Author.Needs.{needs}
-use mathlib.Core.Path.{_≡_, sym, ap, _∙_}
+use mathlib.Core.Path.{ap, _∙_}
 use lib.IntN.{ℤ}
 use Rattle.whole.specs.Whole.{floorZ}
 use Rattle.whole.proofs.Linear.{ret}

@@ -1,10 +1,9 @@
 -- `bulletin::records::in_ranges` meets its contract: each test is that of its field. Assumes nothing.
 use borrow.Author.Needs.{needs}
 use mathlib.Core.Path.{_≡_, sym, _∙_}
-use mathlib.Core.Bool.{true}
 use Rattle.whole.proofs.Linear.{ret}
 use Rattle.whole.proofs.Tests.{passed, failed}
-use Rattle.fields.specs.Ranges.{inside, mjd, pole, ut1utc, taiutc}
+use Rattle.fields.specs.Ranges.{inside, mjd, pole, ut1utc}
 use Rattle.bulletin.specs.Reading.{inRanges}
 use Rattle.bulletin.proofs.records.in_ranges.Statement.{statement}
 use Rattle.bulletin.proofs.records.in_ranges.Tie as tie

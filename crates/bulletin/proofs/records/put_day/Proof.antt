@@ -1,10 +1,9 @@
 -- `bulletin::records::put_day` meets its contract: five stores, one behind the other. Assumes nothing.
 use borrow.Author.Needs.{needs}
 use mathlib.Core.Path.{_≡_}
-use Prim.Native.Nat.{ℕ, suc, _+_, _*_}
+use Prim.Native.Nat.{suc, _+_, _*_}
 use native.Mathlib.Omega.{arith}
 use lib.ListN.{set}
-use lib.Seq.{sets}
 use Rattle.whole.proofs.Linear.{ret}
 use Rattle.bulletin.proofs.records.put_day.Statement.{statement}
 use Rattle.bulletin.proofs.records.put_day.Tie as tie

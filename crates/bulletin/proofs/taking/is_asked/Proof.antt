@@ -1,5 +1,5 @@
 -- `bulletin::taking::is_asked` meets its contract. Assumes nothing.
-use mathlib.Core.Path.{_≡_, sym, _∙_}
+use mathlib.Core.Path.{sym}
 use Rattle.whole.proofs.Linear.{back}
 use Rattle.bulletin.proofs.Asking.{asked-before, asked-none, asked-sum, asked-difference, sum-fits, difference-fits}
 use Rattle.bulletin.proofs.taking.is_asked.Statement.{statement}

@@ -1,7 +1,6 @@
 -- `days::faults::first_lacking` ends: it looks for one day more than there are rows.
 use Prim.Native.Nat.{_-_, _≤_}
 use lib.ListN.{length}
-use native.Mathlib.Omega.{arith}
 use borrow.Author.Needs.{needs}
 use Rattle.days.proofs.faults.first_lacking.Statement.{statement}
 use Rattle.days.proofs.faults.first_lacking.Tie as tie

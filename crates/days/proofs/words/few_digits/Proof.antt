@@ -1,7 +1,6 @@
 -- `days::words::few_digits` is the test of its definition.
 use borrow.Author.Needs.{needs}
 use borrow.Author.Tests.{lt-ltb, le-leb, lt-leb}
-use mathlib.Core.Path.{_≡_, refl}
 use native.Mathlib.Omega.{arith}
 use lib.ListN.{length}
 use Rattle.days.specs.Words.{fewDigits}
