@@ -7,7 +7,14 @@ use crate::rooms::samples_with_room;
 
 fn check(file: &[u8]) {
     let a = session::check(file);
-    let row = [a.refusal, a.stations, a.sources, a.days, a.passes];
+    let row = [
+        a.refusal,
+        a.stations,
+        a.sources,
+        a.days,
+        a.passes,
+        a.day_kind,
+    ];
     print_numbers(&row);
 }
 
@@ -31,7 +38,7 @@ fn source_at(file: &[u8], i: usize) {
 
 fn day_at(file: &[u8], i: usize) {
     let a = session::day_at(file, i);
-    let row = [a.refusal, a.mjd, a.x, a.y, a.ut1_utc, a.tai_utc];
+    let row = [a.refusal, a.mjd, a.x, a.y, a.ut1_utc, a.tai_utc, a.mark];
     print_numbers(&row);
 }
 

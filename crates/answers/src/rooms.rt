@@ -50,25 +50,33 @@ pub(crate) fn rows_with_room(days: &[i64], m: usize) {
     }
 }
 
-// The four lists end at a, b, c and the end.
-fn write_lists(list: &[i64], a: usize, b: usize, c: usize, room: &mut [u8])
+// The four lists end at a, b, c and the end; the days have this kind.
+fn write_lists(kind: i64, list: &[i64], a: usize, b: usize, c: usize, room: &mut [u8])
     requires { ⌜ (a ≤ b) × (b ≤ c) × (c ≤ length (now list)) ⌝ }
 {
-    print_number(writer::write(&list[0..a], &list[a..b], &list[b..c], &list[c..], room));
+    let w = writer::write(
+        kind,
+        &list[0..a],
+        &list[a..b],
+        &list[b..c],
+        &list[c..],
+        room,
+    );
+    print_number(w);
     print_bytes(room);
 }
 
-fn write_in(list: &[i64], a: usize, b: usize, c: usize, m: usize)
+fn write_in(kind: i64, list: &[i64], a: usize, b: usize, c: usize, m: usize)
     requires { ⌜ (a ≤ b) × (b ≤ c) × (c ≤ length (now list)) ⌝ }
 {
     let mut space = [165u8; 16384];
     if m <= 16384 {
-        write_lists(list, a, b, c, &mut space[0..m]);
+        write_lists(kind, list, a, b, c, &mut space[0..m]);
     }
 }
 
 // The first three lists have a, b and c numbers.
-fn write_split(list: &[i64], a: usize, b: usize, c: usize, m: usize) {
+fn write_split(kind: i64, list: &[i64], a: usize, b: usize, c: usize, m: usize) {
     let n = list.len();
     if n < a {
         return;
@@ -79,11 +87,12 @@ fn write_split(list: &[i64], a: usize, b: usize, c: usize, m: usize) {
     if n - a - b < c {
         return;
     }
-    write_in(list, a, a + b, a + b + c, m);
+    write_in(kind, list, a, a + b, a + b + c, m);
 }
 
 pub(crate) fn write_with_room(head: Head, list: &[i64]) {
     write_split(
+        head.d,
         list,
         index(head.a),
         index(head.b),

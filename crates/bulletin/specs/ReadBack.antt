@@ -88,7 +88,7 @@ module _ (numbers : List ℤ) where
 
   -- the same numbers, and zeros behind
   abbrev pub sameDays : Days
-  sameDays = days (numbers ++ replicate (320 - length numbers) (pos 0))
+  sameDays = days (numbers ++ replicate (384 - length numbers) (pos 0))
 
   -- the text of rows of consecutive days is read as these days
   abbrev pub TextBack : Type 0

@@ -14,7 +14,7 @@ use Rattle.whole.specs.Refusals.{unless, firstOf}
 use Rattle.whole.specs.Answers.{given}
 use Rattle.fields.specs.declared.Day.{Day}
 use Rattle.fields.specs.declared.ranges.Range.{Range}
-use Rattle.fields.specs.Ranges.{range, inside, mjd, pole, ut1utc, taiutc}
+use Rattle.fields.specs.Ranges.{range, inside, mjd, pole, ut1utc, taiutc, mark}
 use Rattle.bulletin.specs.declared.Days.{Days}
 use Rattle.bulletin.specs.Columns.{xColumns, yColumns, ut1Columns, valueIn}
 use Rattle.bulletin.specs.Rows.{rowsOf, rowAt, hasDay, dayIn, isFilled, daysOf, firstIn}
@@ -25,21 +25,21 @@ dayCount = range 2 64
 
 -- each field of a record is in its range
 unfoldable pub inRanges : Day → Bool
-inRanges d = inside mjd (d .mjd) && (inside pole (d .x) && (inside pole (d .y) && (inside ut1utc (d .«ut1_utc») && inside taiutc (d .«tai_utc»))))
+inRanges d = inside mjd (d .mjd) && (inside pole (d .x) && (inside pole (d .y) && (inside ut1utc (d .«ut1_utc») && (inside taiutc (d .«tai_utc») && inside mark (d .mark)))))
 
 -- its numbers in the order of a session file
 abbrev pub numbersOf : Day → List ℤ
-numbersOf d = d .mjd ∷ d .x ∷ d .y ∷ d .«ut1_utc» ∷ d .«tai_utc» ∷ []
+numbersOf d = d .mjd ∷ d .x ∷ d .y ∷ d .«ut1_utc» ∷ d .«tai_utc» ∷ d .mark ∷ []
 
 -- the days asked for: `count` of them from the first on
 abbrev pub asked : ℤ → ℤ → ℤ → Bool
 asked first count d = leZ first d && ltZ d (first +ℤ count)
 
--- the record of day d, by the first row with that day: x and y in microarcseconds, UT1-UTC in nanoseconds
+-- the record of day d, by the first row with that day: x and y in microarcseconds, UT1-UTC in nanoseconds; a bulletin gives full UT1, which document 02, L4, marks 1
 unfoldable pub recordFor : List ℕ → ℤ → ℤ → Day
 recordFor text d tai =
     let row = rowAt text (firstIn (daysOf text) d) in
-    record { mjd = d; x = valueIn xColumns row; y = valueIn yColumns row; «ut1_utc» = pos 100 *ℤ valueIn ut1Columns row; «tai_utc» = tai }
+    record { mjd = d; x = valueIn xColumns row; y = valueIn yColumns row; «ut1_utc» = pos 100 *ℤ valueIn ut1Columns row; «tai_utc» = tai; mark = pos 1 }
 
 -- each row has a day
 unfoldable pub allDated : List ℕ → Bool
@@ -73,13 +73,13 @@ module _ (text : List ℕ) (first count : ℤ) where
 
     -- the records, and zeros behind the last
     unfoldable pub records : List ℤ
-    records = joined (posPart count) (λ (k : ℕ). numbersOf (recordOf k)) ++ replicate (320 - 5 * posPart count) (pos 0)
+    records = joined (posPart count) (λ (k : ℕ). numbersOf (recordOf k)) ++ replicate (384 - 6 * posPart count) (pos 0)
 
 abbrev pub days : List ℤ → Days
 days zs = record { refusal = pos 0; days = zs }
 
 abbrev pub noDays : ℕ → Days
-noDays n = record { refusal = pos n; days = replicate 320 (pos 0) }
+noDays n = record { refusal = pos n; days = replicate 384 (pos 0) }
 
 unfoldable pub daysOutcome : List ℕ → ℤ → ℤ → List ℤ → Days
 daysOutcome text first count tai = given (daysNumber text first count tai) (days (records text first count tai)) noDays

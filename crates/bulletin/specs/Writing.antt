@@ -1,4 +1,4 @@
--- Document 02, L3: the rows that `rows_from_days` writes, of records that stand in a list one behind the other, five numbers each.
+-- Document 02, L3: the rows that `rows_from_days` writes, of records that stand in a list one behind the other, six numbers each.
 use Prim.Native.Nat.{ℕ, _*_, _/_}
 use mathlib.Core.Bool.{Bool, _&&_}
 use mathlib.Core.List.{List, [], _∷_, _++_}
@@ -6,6 +6,7 @@ use lib.Dec.{eqb, leb}
 use lib.ListN.{length, drop, replicate}
 use lib.IntN.{ℤ, pos, _*ℤ_}
 use Rattle.whole.specs.Whole.{floorZ, modZ}
+use Rattle.whole.specs.Ranges.{eqZ}
 use Rattle.whole.specs.Each.{allBelow}
 use Rattle.whole.specs.Values.{joined}
 use Rattle.whole.specs.Refusals.{unless, lowest}
@@ -29,9 +30,10 @@ rowFor d =
     (withDecimal yColumns (withDecimal xColumns (withDecimal mjdColumns blankRow (pos 100 *ℤ d .mjd)) (d .x)) (d .y))
     (floorZ (d .«ut1_utc») 100)
 
--- a record can stand in a row: its fields are in their ranges, and its UT1-UTC is whole hundreds of nanoseconds
+-- a record can stand in a row: its fields are in their ranges, its UT1-UTC is whole hundreds of nanoseconds, and it is marked 1, for the columns
+-- hold full UT1
 unfoldable pub canStand : Day → Bool
-canStand d = inRanges d && eqb (modZ (d .«ut1_utc») 100) 0
+canStand d = inRanges d && (eqb (modZ (d .«ut1_utc») 100) 0 && eqZ (d .mark) (pos 1))
 
 -- an answer, with the room after the call
 pub record Written : Type 0 where
@@ -44,14 +46,14 @@ written r after = record { answer = r; room = after }
 module _ (numbers : List ℤ) where
   -- how many records there are, and record i
   abbrev pub recordsIn : ℕ
-  recordsIn = length numbers / 5
+  recordsIn = length numbers / 6
 
   abbrev pub recordAt : ℕ → Day
-  recordAt i = dayFrom (drop (5 * i) numbers)
+  recordAt i = dayFrom (drop (6 * i) numbers)
 
   -- a right number of whole records, each of which can stand in a row
   unfoldable pub listRight : Bool
-  listRight = eqb (5 * recordsIn) (length numbers) && (inside dayCount (pos recordsIn) && allBelow recordsIn (λ (i : ℕ). canStand (recordAt i)))
+  listRight = eqb (6 * recordsIn) (length numbers) && (inside dayCount (pos recordsIn) && allBelow recordsIn (λ (i : ℕ). canStand (recordAt i)))
 
   -- a row for each, one behind the other
   unfoldable pub rowsText : List ℕ

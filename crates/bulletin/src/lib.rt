@@ -25,11 +25,11 @@ ghost use Rattle.bulletin.specs.Promises.{DaysPromise, RowsPromise};
 ghost use Rattle.bulletin.specs.Reading.{noDays};
 ghost use Rattle.bulletin.specs.Code.{Listed};
 
-// A refusal, and the records of days, five numbers each; zeros behind the last, and throughout where refused.
+// A refusal, and the records of days, six numbers each; zeros behind the last, and throughout where refused.
 #[repr(C)]
 pub struct Days {
     pub refusal: i64,
-    pub days: [i64; 320],
+    pub days: [i64; 384],
 }
 
 // The answer where all is refused with n.
@@ -39,7 +39,7 @@ fn no_days(n: usize) -> Days
 {
     Days {
         refusal: number(n),
-        days: [0; 320],
+        days: [0; 384],
     }
 }
 
@@ -94,7 +94,7 @@ pub fn rows_from_days(days: &[i64], room: &mut [u8]) -> Number
             value: 0,
         };
     }
-    let bytes = 186 * (days.len() / 5);
+    let bytes = 186 * (days.len() / 6);
     if room.len() < bytes {
         return Number {
             refusal: 7,

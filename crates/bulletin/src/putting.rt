@@ -1,4 +1,4 @@
-// Rows written from records that stand in a list one behind the other, five numbers each.
+// Rows written from records that stand in a list one behind the other, six numbers each.
 ghost use mathlib.Core.Path.{_≡_};
 ghost use mathlib.Core.Bool.{true};
 ghost use Prim.Native.Nat.{_+_, _*_, _≤_};
@@ -21,16 +21,17 @@ use whole::divide::floor_div;
 
 // Record i of the list.
 fn record_at(numbers: &[i64], i: usize) -> Day
-    requires { ⌜ 5 * i + 5 ≤ length (now numbers) ⌝ }
+    requires { ⌜ 6 * i + 6 ≤ length (now numbers) ⌝ }
     ensures { λ r. ⌜ r ≡ recordAt (now (numbers .entry)) i ⌝ }
 {
-    let at = 5 * i;
+    let at = 6 * i;
     Day {
         mjd: numbers[at],
         x: numbers[at + 1],
         y: numbers[at + 2],
         ut1_utc: numbers[at + 3],
         tai_utc: numbers[at + 4],
+        mark: numbers[at + 5],
     }
 }
 
@@ -41,12 +42,15 @@ fn can_stand(d: Day) -> bool
     if !in_ranges(d) {
         return false;
     }
-    whole_hundreds(d.ut1_utc)
+    if !whole_hundreds(d.ut1_utc) {
+        return false;
+    }
+    d.mark == 1
 }
 
 // Whether each record of the list can.
 fn all_can_stand(numbers: &[i64], records: usize) -> bool
-    requires { ⌜ 5 * records ≤ length (now numbers) ⌝ }
+    requires { ⌜ 6 * records ≤ length (now numbers) ⌝ }
     ensures { λ r. ⌜ r ≡ allBelow records (λ i. canStand (recordAt (now (numbers .entry)) i)) ⌝ }
 {
     let mut i: usize = 0;
@@ -63,8 +67,8 @@ fn all_can_stand(numbers: &[i64], records: usize) -> bool
 pub fn list_right(numbers: &[i64]) -> bool
     ensures { λ r. ⌜ r ≡ listRight (now (numbers .entry)) ⌝ }
 {
-    let records = numbers.len() / 5;
-    if 5 * records != numbers.len() {
+    let records = numbers.len() / 6;
+    if 6 * records != numbers.len() {
         return false;
     }
     if !inside(DAY_COUNT, records as i64) {
@@ -92,7 +96,7 @@ pub fn put_rows(numbers: &[i64], room: &mut [u8])
     requires { ⌜ (listRight (now numbers) ≡ true) × (186 * recordsIn (now numbers) ≤ length (now room)) ⌝ }
     ensures { λ _. ⌜ now (room .exit) ≡ pasted (now (room .entry)) 0 (rowsText (now (numbers .entry))) ⌝ }
 {
-    let records = numbers.len() / 5;
+    let records = numbers.len() / 6;
     let mut i: usize = 0;
     while i < records {
         let row = row_for(record_at(numbers, i));

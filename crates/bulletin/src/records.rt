@@ -20,6 +20,7 @@ use crate::listing::row_at;
 use crate::no_days;
 use crate::taking::first_in;
 use fields::Day;
+use fields::ranges::MARK;
 use fields::ranges::MJD;
 use fields::ranges::POLE;
 use fields::ranges::Range;
@@ -48,7 +49,10 @@ pub fn in_ranges(d: Day) -> bool
     if !inside(UT1_UTC, d.ut1_utc) {
         return false;
     }
-    inside(TAI_UTC, d.tai_utc)
+    if !inside(TAI_UTC, d.tai_utc) {
+        return false;
+    }
+    inside(MARK, d.mark)
 }
 
 // Whether the first day and the count are in their ranges, and each day has its TAI-UTC.
@@ -72,7 +76,7 @@ fn day_at(first: i64, k: usize) -> i64
     first + number(k)
 }
 
-// The record of day d, by the row that is taken for it.
+// The record of day d, by the row that is taken for it: it holds full UT1.
 fn record_of(text: &[u8], dates: &[i64], starts: &[usize], d: i64, tai: i64) -> Day
     requires { ⌜ Listed (now text) (now dates) (now starts) × (firstIn (now dates) d < length (now dates)) × (isFilled (rowAt (now text) (firstIn (now dates) d)) ≡ true) ⌝ }
     ensures { λ r. ⌜ r ≡ recordFor (now (text .entry)) d tai ⌝ }
@@ -84,25 +88,28 @@ fn record_of(text: &[u8], dates: &[i64], starts: &[usize], d: i64, tai: i64) -> 
         y: value_in(Y, row),
         ut1_utc: 100 * value_in(UT1, row),
         tai_utc: tai,
+        mark: 1,
     }
 }
 
 // Puts the numbers of record k into their places.
-fn put_day(days: &mut [i64; 320], k: usize, d: Day)
+fn put_day(days: &mut [i64; 384], k: usize, d: Day)
     requires { ⌜ k < 64 ⌝ }
-    ensures { λ _. ⌜ now (days .exit) ≡ sets (now (days .entry)) (5 * k) (numbersOf d) ⌝ }
+    ensures { λ _. ⌜ now (days .exit) ≡ sets (now (days .entry)) (6 * k) (numbersOf d) ⌝ }
 {
-    let at = 5 * k;
+    let at = 6 * k;
     let m = d.mjd;
     let x = d.x;
     let y = d.y;
     let u = d.ut1_utc;
     let t = d.tai_utc;
+    let w = d.mark;
     days[at] = m;
     days[at + 1] = x;
     days[at + 2] = y;
     days[at + 3] = u;
     days[at + 4] = t;
+    days[at + 5] = w;
 }
 
 // The records, as many as there are of TAI-UTC; 2 where a field of one is out of its range.
@@ -110,7 +117,7 @@ pub fn records_of(text: &[u8], dates: &[i64], starts: &[usize], first: i64, tai:
     requires { ⌜ Ready (now text) (now dates) (now starts) first (pos (length (now tai))) × (length (now tai) ≤ 64) × (∣ first ∣ ≤ 100_000) ⌝ }
     ensures { λ r. ⌜ r ≡ givenRecords (now (text .entry)) first (now (tai .entry)) ⌝ }
 {
-    let mut days = [0i64; 320];
+    let mut days = [0i64; 384];
     let mut k: usize = 0;
     while k < tai.len() {
         let d = record_of(text, dates, starts, day_at(first, k), tai[k]);

@@ -60,6 +60,17 @@ fn say_word(others: &[u8], kind: i64, k: usize) {
             TAI-UTC\ns\n",
             k,
         ),
+        5 => say_line(
+            others,
+            b"days\n\
+            MJD\n\n\
+            x\nmicroarcseconds\n\
+            y\nmicroarcseconds\n\
+            UT1-UTC\nns\n\
+            TAI-UTC\ns\n\
+            mark\n\n",
+            k,
+        ),
         _ => say_line(
             others,
             b"passes\n\

@@ -45,7 +45,7 @@ struct Written {
 
 // Prints the records of the days, or the refusal, from a room for the text.
 fn print_days(rows: &[u8], first: i64, count: i64, tai: &[i64], room: &mut [u8]) -> Written
-    requires { ⌜ 6720 ≤ length (now room) ⌝ }
+    requires { ⌜ 8064 ≤ length (now room) ⌝ }
     ensures { λ r. ⌜ r .refusal ≡ daysOutcome (now (rows .entry)) first count (now (tai .entry)) .refusal ⌝ }
 {
     let t = days_text(rows, first, count, tai, room);
@@ -73,7 +73,7 @@ fn run(buffer: &mut [u8], first: i64, count: i64, tai: &[i64]) -> Ran
     let n = input.bytes;
     let failed = input.failed;
     say_unread(failed, n);
-    let mut room = [0u8; 6720];
+    let mut room = [0u8; 8064];
     let p = print_days(&buffer[..n], first, count, tai, &mut room);
     say_unwritten(p.whole);
     explain(&buffer[..n], first, count, tai, p.refusal);

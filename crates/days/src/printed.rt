@@ -12,12 +12,12 @@ use text::table::put_refused;
 use text::table::put_rows;
 use whole::sign::size;
 
-// Puts the lines of so many records at the start of the room: 64 lines of five numbers fit it.
+// Puts the lines of so many records at the start of the room: 64 lines of six numbers fit it.
 fn put_days(room: &mut [u8], days: &[i64], count: i64) -> usize
-    requires { ⌜ (posPart count ≤ 64) × (negPart count ≡ 0) × (320 ≤ length (now days)) × (6720 ≤ length (now room)) ⌝ }
-    ensures { λ r. ⌜ Put (now (room .entry)) 0 (rowLines 5 (now (days .entry)) (posPart count)) (now (room .exit)) r ⌝ }
+    requires { ⌜ (posPart count ≤ 64) × (negPart count ≡ 0) × (384 ≤ length (now days)) × (8064 ≤ length (now room)) ⌝ }
+    ensures { λ r. ⌜ Put (now (room .entry)) 0 (rowLines 6 (now (days .entry)) (posPart count)) (now (room .exit)) r ⌝ }
 {
-    put_rows(room, 0, days, 5, size(count) as usize)
+    put_rows(room, 0, days, 6, size(count) as usize)
 }
 
 // How long the text is, and the refusal, 0 for none.
@@ -28,7 +28,7 @@ pub(crate) struct Text {
 
 // Puts the text of the answer for these rows and words at the start of the room.
 pub(crate) fn days_text(rows: &[u8], first: i64, count: i64, tai: &[i64], room: &mut [u8]) -> Text
-    requires { ⌜ 6720 ≤ length (now room) ⌝ }
+    requires { ⌜ 8064 ≤ length (now room) ⌝ }
     ensures { λ r. ⌜ Put (now (room .entry)) 0 (daysText (now (rows .entry)) first count (now (tai .entry))) (now (room .exit)) (r .length) × (r .refusal ≡ daysOutcome (now (rows .entry)) first count (now (tai .entry)) .refusal) ⌝ }
 {
     let d = days_from_rows(rows, first, count, tai);

@@ -14,7 +14,7 @@ use Rattle.earth.specs.declared.time.Epoch.{Epoch}
 use Rattle.sections.specs.File.{countOf}
 use Rattle.session.specs.Records.{stationOf, sourceOf, dayBy, placeBy}
 use Rattle.wave.specs.declared.Sight.{Sight}
-use Rattle.wave.specs.Keeping.{TrueMinute, sightOf, delaySeen}
+use Rattle.wave.specs.Keeping.{TrueMinute, reducedOf, sightOf, delaySeen}
 use Rattle.delay.specs.declared.keep.Kept.{Kept}
 use Rattle.delay.specs.declared.records.Days.{Days}
 use Rattle.delay.specs.declared.records.Places.{Places}
@@ -46,8 +46,9 @@ roomBy s p room n = given n (firstValues (samplesOf p) (sampleIn s p) ++ drop (s
 abbrev pub sightIn : List ℕ → Places → Sight
 sightIn s n = sightOf (stationOf s (n .first)) (stationOf s (n .second)) (sourceOf s (n .source))
 
+-- the records of day d and of the next, with UT1R
 abbrev pub daysFrom : List ℕ → ℤ → Days
-daysFrom s d = record { day = d; today = dayBy s d; next = dayBy s (d +ℤ pos 1) }
+daysFrom s d = record { day = d; today = reducedOf (dayBy s d); next = reducedOf (dayBy s (d +ℤ pos 1)) }
 
 -- what is kept are the records of its day and of the next, and the tide of its minute
 pub record TrueKept (s : List ℕ) (k : Kept) : Type 0 where

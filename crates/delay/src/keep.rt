@@ -1,8 +1,10 @@
-// One sample after another: what a day's records give is read once a day, and the tide is worked out once a minute.
+// One sample after another: a day's record is read, and its tide taken away, once a pass; the tide of an epoch is worked out once a minute.
 use crate::records::Days;
+use crate::records::day_in;
 use crate::records::days_from;
 use earth::Epoch;
 use earth::rows::tide_at_minute;
+use fields::Day;
 use wave::Sight;
 use wave::delay_seen;
 use wave::values::Minute;
@@ -13,7 +15,9 @@ ghost use mathlib.Core.Path.{_≡_};
 ghost use mathlib.Core.Bool.{true};
 ghost use Rattle.fields.specs.Ranges.{Holds, millisecond};
 ghost use Rattle.sections.specs.File.{refusalOf};
+ghost use Rattle.session.specs.Records.{dayBy};
 ghost use Rattle.wave.specs.Bounds.{InSight};
+ghost use Rattle.wave.specs.Keeping.{reducedOf};
 ghost use Rattle.delay.specs.Keeping.{TrueKept, daysFrom, delayAt};
 ghost use Rattle.delay.specs.Sessions.{covers};
 
@@ -43,7 +47,18 @@ pub fn kept_from(s: &[u8], day: i64) -> Kept
     }
 }
 
-// The records of this day and of the next, read anew only where the day is another.
+// The record of this day: where what is kept has it as that of its next day, it is taken over.
+fn today_at(s: &[u8], kept: Days, day: i64) -> Day
+    requires { ⌜ (refusalOf (now s) ≡ 0) × (covers (now s) day ≡ true) × (kept ≡ daysFrom (now s) (kept .day)) ⌝ }
+    ensures { λ r. ⌜ r ≡ reducedOf (dayBy (now (s .entry)) day) ⌝ }
+{
+    if kept.day == day - 1 {
+        return kept.next;
+    }
+    day_in(s, day)
+}
+
+// The records of this day and of the next: where the day is another, the next is read anew.
 fn days_at(s: &[u8], kept: Days, day: i64) -> Days
     requires { ⌜ (refusalOf (now s) ≡ 0) × (covers (now s) day ≡ true) × (kept ≡ daysFrom (now s) (kept .day)) ⌝ }
     ensures { λ r. ⌜ r ≡ daysFrom (now (s .entry)) day ⌝ }
@@ -51,7 +66,11 @@ fn days_at(s: &[u8], kept: Days, day: i64) -> Days
     if kept.day == day {
         return kept;
     }
-    days_from(s, day)
+    Days {
+        day: day,
+        today: today_at(s, kept, day),
+        next: day_in(s, day + 1),
+    }
 }
 
 // The delay along a sight at an epoch that the file covers.

@@ -13,6 +13,7 @@ use wave::sight_of;
 use wave::values::Earth;
 use wave::values::earth_at;
 use wave::values::minutes_by;
+use wave::values::reduced;
 ghost use mathlib.Core.Path.{_≡_};
 ghost use mathlib.Core.Bool.{true, _&&_};
 ghost use Prim.Native.Nat.{_<_, _≤_};
@@ -20,7 +21,9 @@ ghost use lib.Dec.{ltb};
 ghost use Rattle.whole.specs.Whole.{∣_∣};
 ghost use Rattle.fields.specs.Ranges.{Holds, millisecond};
 ghost use Rattle.sections.specs.File.{refusalOf, countOf};
+ghost use Rattle.session.specs.Records.{dayBy};
 ghost use Rattle.wave.specs.Bounds.{InEarth, InSight};
+ghost use Rattle.wave.specs.Keeping.{reducedOf};
 ghost use Rattle.delay.specs.Keeping.{daysFrom, placesBy, placesThere, sightIn};
 ghost use Rattle.delay.specs.Sessions.{covers, earthIn, hasId};
 
@@ -31,7 +34,7 @@ pub struct Places {
     pub source: usize,
 }
 
-// The records of a day and of the next.
+// The records of a day and of the next, both with UT1R.
 pub struct Days {
     pub day: i64,
     pub today: Day,
@@ -101,6 +104,14 @@ pub fn covers(s: &[u8], day: i64) -> bool
     both(has_day(s, day), has_day(s, day + 1))
 }
 
+// The record of a day that the file has, with UT1R.
+pub fn day_in(s: &[u8], day: i64) -> Day
+    requires { ⌜ (refusalOf (now s) ≡ 0) × (hasId (now s) 2 day ≡ true) ⌝ }
+    ensures { λ r. ⌜ r ≡ reducedOf (dayBy (now (s .entry)) day) ⌝ }
+{
+    reduced(day_of(s, day_place(s, day)))
+}
+
 // The records of a day that the file covers, and of the next.
 pub fn days_from(s: &[u8], day: i64) -> Days
     requires { ⌜ (refusalOf (now s) ≡ 0) × (covers (now s) day ≡ true) ⌝ }
@@ -108,8 +119,8 @@ pub fn days_from(s: &[u8], day: i64) -> Days
 {
     Days {
         day: day,
-        today: day_of(s, day_place(s, day)),
-        next: day_of(s, day_place(s, day + 1)),
+        today: day_in(s, day),
+        next: day_in(s, day + 1),
     }
 }
 

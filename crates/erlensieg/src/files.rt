@@ -53,13 +53,14 @@ pub extern "C" fn fringe_pass_at(file: &[u8], index: usize) -> PassAnswer
 
 #[no_mangle]
 pub extern "C" fn fringe_write(
+    day_kind: i64,
     stations: &[i64],
     sources: &[i64],
     days: &[i64],
     passes: &[i64],
     room: &mut [u8],
 ) -> Number
-    ensures { λ r. ⌜ WritePromise (now (stations .entry)) (now (sources .entry)) (now (days .entry)) (now (passes .entry)) (now (room .entry)) r (now (room .exit)) ⌝ }
+    ensures { λ r. ⌜ WritePromise day_kind (now (stations .entry)) (now (sources .entry)) (now (days .entry)) (now (passes .entry)) (now (room .entry)) r (now (room .exit)) ⌝ }
 {
-    writer::write(stations, sources, days, passes, room)
+    writer::write(day_kind, stations, sources, days, passes, room)
 }

@@ -50,6 +50,10 @@ ut1utc = eitherSide 900_000_000
 abbrev pub taiutc : Range
 taiutc = range 0 99
 
+-- which UT1 a record holds: 0 for UT1R, 1 for full UT1. Document 02, L4.
+abbrev pub mark : Range
+mark = range 0 1
+
 -- of a UTC day
 abbrev pub millisecond : Range
 millisecond = range 0 86_399_999

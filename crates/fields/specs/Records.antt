@@ -7,7 +7,7 @@ use Rattle.fields.specs.declared.Station.{Station}
 use Rattle.fields.specs.declared.Source.{Source}
 use Rattle.fields.specs.declared.Day.{Day}
 use Rattle.fields.specs.declared.Pass.{Pass}
-use Rattle.fields.specs.Ranges.{Holds, idNumber, coordinate, rightAscension, declination, mjd, pole, ut1utc, taiutc, millisecond, step, samples, tolerance}
+use Rattle.fields.specs.Ranges.{Holds, idNumber, coordinate, rightAscension, declination, mjd, pole, ut1utc, taiutc, mark, millisecond, step, samples, tolerance}
 
 -- ---- the fields stand in the row in document 01's order
 
@@ -21,7 +21,7 @@ unfoldable pub sourceFrom : List ℤ → Source
 sourceFrom row = record { id = numberIn row 0; «right_ascension» = numberIn row 1; declination = numberIn row 2 }
 
 unfoldable pub dayFrom : List ℤ → Day
-dayFrom row = record { mjd = numberIn row 0; x = numberIn row 1; y = numberIn row 2; «ut1_utc» = numberIn row 3; «tai_utc» = numberIn row 4 }
+dayFrom row = record { mjd = numberIn row 0; x = numberIn row 1; y = numberIn row 2; «ut1_utc» = numberIn row 3; «tai_utc» = numberIn row 4; mark = numberIn row 5 }
 
 unfoldable pub passFrom : List ℤ → Pass
 passFrom row =
@@ -55,6 +55,7 @@ pub record InDay (r : Day) : Type 0 where
   pub y : Holds pole (r .y)
   pub ut1-utc : Holds ut1utc (r .«ut1_utc»)
   pub tai-utc : Holds taiutc (r .«tai_utc»)
+  pub mark : Holds mark (r .mark)
 
 pub record InPass (r : Pass) : Type 0 where
   pub station1 : Holds idNumber (r .station1)

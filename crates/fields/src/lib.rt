@@ -23,6 +23,7 @@ pub struct Day {
     pub y: i64,
     pub ut1_utc: i64,
     pub tai_utc: i64,
+    pub mark: i64,
 }
 
 pub struct Pass {
@@ -67,6 +68,7 @@ pub fn day_from(row: &[i64; 8]) -> Day
         y: row[2],
         ut1_utc: row[3],
         tai_utc: row[4],
+        mark: row[5],
     }
 }
 

@@ -46,6 +46,8 @@ pub const UT1_UTC: Range = Range {
 
 pub const TAI_UTC: Range = Range { low: 0, high: 99 };
 
+pub const MARK: Range = Range { low: 0, high: 1 };
+
 pub const MILLISECOND: Range = Range {
     low: 0,
     high: 86_399_999,

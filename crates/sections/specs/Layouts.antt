@@ -6,7 +6,7 @@ use mathlib.Core.List.{List, [], _∷_, _++_}
 use lib.ListN.{getD}
 use lib.Dec.{eqb}
 use Rattle.fields.specs.declared.ranges.Range.{Range}
-use Rattle.fields.specs.Ranges.{idNumber, coordinate, rightAscension, declination, mjd, pole, ut1utc, taiutc, millisecond, step, samples, tolerance}
+use Rattle.fields.specs.Ranges.{idNumber, coordinate, rightAscension, declination, mjd, pole, ut1utc, taiutc, mark, millisecond, step, samples, tolerance}
 
 -- what the first fields of two neighbouring records keep: nothing, the later is the greater, or the later is the next number
 abbrev pub free : ℕ
@@ -40,6 +40,10 @@ source = record { kind = 2; fields = idNumber ∷ rightAscension ∷ declination
 abbrev pub orientation : Layout
 orientation = record { kind = 3; fields = mjd ∷ pole ∷ pole ∷ ut1utc ∷ taiutc ∷ []; fewest = 2; most = 64; order = consecutive }
 
+-- document 02, L4: the five of kind 3, and the mark
+abbrev pub marked : Layout
+marked = record { kind = 5; fields = mjd ∷ pole ∷ pole ∷ ut1utc ∷ taiutc ∷ mark ∷ []; fewest = 2; most = 64; order = consecutive }
+
 -- "station 1, station 2, source, MJD, u, step ms, samples, tolerance ps"
 abbrev pub pass : Layout
 pass = record { kind = 4; fields = idNumber ∷ idNumber ∷ idNumber ∷ mjd ∷ millisecond ∷ step ∷ samples ∷ tolerance ∷ []; fewest = 1; most = 64; order = free }
@@ -48,9 +52,9 @@ pass = record { kind = 4; fields = idNumber ∷ idNumber ∷ idNumber ∷ mjd �
 abbrev pub Table : Type 0
 Table = List (List Layout)
 
--- the four places of document 01
+-- the four places of document 01; document 02, L4, has a second kind of orientation record
 unfoldable pub places : Table
-places = (station ∷ []) ∷ (source ∷ []) ∷ (orientation ∷ []) ∷ (pass ∷ []) ∷ []
+places = (station ∷ []) ∷ (source ∷ []) ∷ (orientation ∷ marked ∷ []) ∷ (pass ∷ []) ∷ []
 
 -- the table with a kind more in place p
 unfoldable pub withKind : Table → ℕ → Layout → Table

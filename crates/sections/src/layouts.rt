@@ -1,11 +1,12 @@
 // The shape of a session file, as data: what may stand in each of the four places. A further kind is a further entry.
 ghost use mathlib.Core.Path.{_≡_};
 ghost use Prim.Native.Nat.{_<_};
-ghost use Rattle.sections.specs.Layouts.{station, source, orientation, pass, noLayout, layoutIn, places};
+ghost use Rattle.sections.specs.Layouts.{station, source, orientation, marked, pass, noLayout, layoutIn, places};
 ghost use Rattle.sections.specs.Code.{shapeOf};
 use fields::ranges::COORDINATE;
 use fields::ranges::DECLINATION;
 use fields::ranges::ID;
+use fields::ranges::MARK;
 use fields::ranges::MILLISECOND;
 use fields::ranges::MJD;
 use fields::ranges::POLE;
@@ -110,6 +111,37 @@ fn orientation() -> Shape
     }
 }
 
+fn marked() -> Shape
+    ensures { λ r. ⌜ r ≡ shapeOf marked ⌝ }
+{
+    Shape {
+        size: 6,
+        fewest: 2,
+        most: 64,
+        order: 2,
+        low: [
+            MJD.low,
+            POLE.low,
+            POLE.low,
+            UT1_UTC.low,
+            TAI_UTC.low,
+            MARK.low,
+            0,
+            0,
+        ],
+        high: [
+            MJD.high,
+            POLE.high,
+            POLE.high,
+            UT1_UTC.high,
+            TAI_UTC.high,
+            MARK.high,
+            0,
+            0,
+        ],
+    }
+}
+
 fn pass() -> Shape
     ensures { λ r. ⌜ r ≡ shapeOf pass ⌝ }
 {
@@ -178,6 +210,9 @@ fn of_days(kind: usize) -> Shape
 {
     if kind == 3 {
         return orientation();
+    }
+    if kind == 5 {
+        return marked();
     }
     no_layout()
 }

@@ -14,7 +14,7 @@ use Rattle.fields.specs.declared.Pass.{Pass}
 use Rattle.fields.specs.Records.{stationFrom, sourceFrom, dayFrom, passFrom}
 use Rattle.sections.specs.Layouts.{places}
 use Rattle.whole.specs.Ranges.{eqZ}
-use Rattle.sections.specs.File.{refusalOf, countOf, fieldAt}
+use Rattle.sections.specs.File.{refusalOf, kindOf, countOf, fieldAt}
 use Rattle.sections.specs.Rows.{rowOf}
 use Rattle.session.specs.declared.Counts.{Counts}
 use Rattle.session.specs.declared.StationAnswer.{StationAnswer}
@@ -23,13 +23,13 @@ use Rattle.session.specs.declared.DayAnswer.{DayAnswer}
 use Rattle.session.specs.declared.PassAnswer.{PassAnswer}
 use Rattle.session.specs.declared.records.Asked.{Asked}
 
--- ---- check: the refusal and zeros, or 0 and the four counts
+-- ---- check: the refusal and zeros, or 0, the four counts, and the kind of the orientation records, which document 02, L4, has two of
 
 abbrev pub noCounts : ℕ → Counts
-noCounts n = record { refusal = pos n; stations = pos 0; sources = pos 0; days = pos 0; passes = pos 0 }
+noCounts n = record { refusal = pos n; stations = pos 0; sources = pos 0; days = pos 0; passes = pos 0; «day_kind» = pos 0 }
 
 abbrev pub countsIn : List ℕ → Counts
-countsIn s = record { refusal = pos 0; stations = pos (countOf s 0); sources = pos (countOf s 1); days = pos (countOf s 2); passes = pos (countOf s 3) }
+countsIn s = record { refusal = pos 0; stations = pos (countOf s 0); sources = pos (countOf s 1); days = pos (countOf s 2); passes = pos (countOf s 3); «day_kind» = pos (kindOf s 2) }
 
 unfoldable pub checkOf : List ℕ → Counts
 checkOf s = cond (eqb (refusalOf s) 0) (countsIn s) (noCounts (refusalOf s))
@@ -80,7 +80,7 @@ abbrev pub sourceAnswer : ℤ → Source → SourceAnswer
 sourceAnswer n r = record { refusal = n; id = r .id; «right_ascension» = r .«right_ascension»; declination = r .declination }
 
 abbrev pub dayAnswer : ℤ → Day → DayAnswer
-dayAnswer n r = record { refusal = n; mjd = r .mjd; x = r .x; y = r .y; «ut1_utc» = r .«ut1_utc»; «tai_utc» = r .«tai_utc» }
+dayAnswer n r = record { refusal = n; mjd = r .mjd; x = r .x; y = r .y; «ut1_utc» = r .«ut1_utc»; «tai_utc» = r .«tai_utc»; mark = r .mark }
 
 abbrev pub passAnswer : ℤ → Pass → PassAnswer
 passAnswer n r =

@@ -28,7 +28,8 @@ fn wrong_field(s: &[u8], p: usize, i: usize) -> usize
     first_outside(s, at, size, &low, &high)
 }
 
-fn kind_number(s: &[u8], p: usize) -> i64
+// The kind of the records in place p.
+pub fn kind_number(s: &[u8], p: usize) -> i64
     requires { ⌜ (contentsRight places (now s) ≡ true) × (p < 4) ⌝ }
     ensures { λ r. ⌜ r ≡ pos (kindOf (now (s .entry)) p) ⌝ }
 {

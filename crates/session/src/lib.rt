@@ -4,6 +4,7 @@ ghost use Rattle.session.specs.Promises.{CheckPromise, FaultPromise, Sta
 mod faults;
 pub mod records;
 
+use faults::kind_number;
 use faults::order_fault;
 use faults::range_fault;
 use fields::day_from;
@@ -25,6 +26,7 @@ pub struct Counts {
     pub sources: i64,
     pub days: i64,
     pub passes: i64,
+    pub day_kind: i64,
 }
 
 #[repr(C)]
@@ -52,6 +54,7 @@ pub struct DayAnswer {
     pub y: i64,
     pub ut1_utc: i64,
     pub tai_utc: i64,
+    pub mark: i64,
 }
 
 #[repr(C)]
@@ -75,7 +78,7 @@ pub struct Place {
     pub field: i64,
 }
 
-// The refusal and zeros, or 0 and the four counts.
+// The refusal and zeros, or 0, the four counts, and the kind of the orientation records.
 pub fn check(file: &[u8]) -> Counts
     ensures { λ r. ⌜ CheckPromise (now (file .entry)) r ⌝ }
 {
@@ -87,6 +90,7 @@ pub fn check(file: &[u8]) -> Counts
             sources: 0,
             days: 0,
             passes: 0,
+            day_kind: 0,
         };
     }
     Counts {
@@ -95,6 +99,7 @@ pub fn check(file: &[u8]) -> Counts
         sources: number(count_of(file, 1)),
         days: number(count_of(file, 2)),
         passes: number(count_of(file, 3)),
+        day_kind: kind_number(file, 2),
     }
 }
 
@@ -143,6 +148,7 @@ pub fn day_at(file: &[u8], index: usize) -> DayAnswer
         y: r.y,
         ut1_utc: r.ut1_utc,
         tai_utc: r.tai_utc,
+        mark: r.mark,
     }
 }
 

@@ -1,6 +1,7 @@
 -- How large the numbers of a delay can be: what the code asks of its inputs, by the ranges of document 01's fields.
+use mathlib.Core.Path.{_≡_}
 use Prim.Native.Nat.{_^_, _≤_}
-use lib.IntN.{ℤ}
+use lib.IntN.{ℤ, pos}
 use Rattle.whole.specs.Ranges.{In}
 use Rattle.whole.specs.Whole.{∣_∣}
 use Rattle.fields.specs.Ranges.{Holds, rightAscension, declination, pole, taiutc}
@@ -32,12 +33,13 @@ pub record Turned (t : Turn) : Type 0 where
   pub cos-size : ∣ t .cos ∣ ≤ 2 ^ 30
   pub sin-size : ∣ t .sin ∣ ≤ 2 ^ 30
 
--- an orientation record
+-- an orientation record that holds UT1R
 pub record InRecord (r : Day) : Type 0 where
   pub x : Holds pole (r .x)
   pub y : Holds pole (r .y)
   pub ut1-size : ∣ ut1rOf r ∣ ≤ 902_723_000
   pub tai : Holds taiutc (r .«tai_utc»)
+  pub unmarked : r .mark ≡ pos 0
 
 -- the earth at an epoch: its pole
 pub record InEarth (e : Earth) : Type 0 where

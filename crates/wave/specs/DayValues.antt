@@ -1,15 +1,22 @@
--- Document 01, 'Day values' and 'Rotation angle', with document 02, L1: what an epoch's two orientation records give at the epoch.
+-- Document 01, 'Day values' and 'Rotation angle', with document 02, L1 and L4: what an epoch's two orientation records give at the epoch.
+use mathlib.Core.Bool.{cond}
 use lib.IntN.{ℤ, pos, _+ℤ_, _-ℤ_, _*ℤ_}
 use Rattle.whole.specs.Whole.{line, floorZ}
+use Rattle.whole.specs.Ranges.{eqZ}
 use Rattle.earth.specs.declared.time.Epoch.{Epoch}
+use Rattle.earth.specs.Calls.{epochOf}
 use Rattle.earth.specs.TideInUT1.{tideOf}
 use Rattle.earth.specs.Angle.{eraOf}
 use Rattle.fields.specs.declared.Day.{Day}
 use Rattle.wave.specs.declared.values.Earth.{Earth}
 
--- "UT1-UTC in the file is UT1R, with the short tide removed": the UT1R that a record gives is its field.
+-- Document 02, L4: the tide that full UT1 holds in a record: that of 0h UTC of the record's own day, by its own TAI-UTC.
+abbrev pub tideIn : Day → ℤ
+tideIn r = tideOf (epochOf (r .mjd) (pos 0)) (r .«tai_utc»)
+
+-- The UT1R that a record gives: UT1-UTC less that tide where the record is marked 1, UT1-UTC itself where it is not.
 unfoldable pub ut1rOf : Day → ℤ
-ut1rOf r = r .«ut1_utc»
+ut1rOf r = cond (eqZ (r .mark) (pos 1)) (r .«ut1_utc» -ℤ tideIn r) (r .«ut1_utc»)
 
 -- Document 02, L1: k seconds in nanoseconds, where TAI-UTC of record d+1 is k above that of record d.
 unfoldable pub leapOf : Day → Day → ℤ

@@ -1,4 +1,4 @@
-// What an epoch's two orientation records give at the epoch. Document 01, 'Day values', and document 02, L1.
+// What an epoch's two orientation records give at the epoch. Document 01, 'Day values', and document 02, L1 and L4.
 use earth::Epoch;
 use earth::rows::tide_at_minute;
 use earth::turn::turn_of;
@@ -10,12 +10,13 @@ ghost use Prim.Native.Nat.{_^_, _<_, _≤_};
 ghost use lib.IntN.{_+ℤ_};
 ghost use Rattle.whole.specs.Whole.{∣_∣};
 ghost use Rattle.fields.specs.Ranges.{Holds, mjd, millisecond};
+ghost use Rattle.fields.specs.Records.{InDay};
 ghost use Rattle.earth.specs.Angle.{eraOf};
 ghost use Rattle.earth.specs.Minutes.{minutesOf};
 ghost use Rattle.earth.specs.TideInUT1.{tideOf};
 ghost use Rattle.wave.specs.DayValues.{ut1rOf, leapOf, ut1Line, fOf, earthOf};
 ghost use Rattle.wave.specs.Bounds.{InRecord, InEarth};
-ghost use Rattle.wave.specs.Keeping.{minuteOf, TrueMinute};
+ghost use Rattle.wave.specs.Keeping.{minuteOf, reducedOf, TrueMinute};
 
 // As used at an epoch: the pole, UT1-UTC with the tide, and ERA.
 pub struct Earth {
@@ -53,11 +54,31 @@ pub fn minutes_by(r0: Day, e: Epoch) -> i64
     e.minutes(r0.tai_utc)
 }
 
-// The UT1R that a record gives.
+// The UT1R that a record gives: one that is marked 1 holds the tide at 0h UTC of its own day, by its own TAI-UTC.
 fn ut1r(r: Day) -> i64
+    requires { ⌜ InDay r ⌝ }
     ensures { λ v. ⌜ v ≡ ut1rOf r ⌝ }
 {
-    r.ut1_utc
+    if r.mark != 1 {
+        return r.ut1_utc;
+    }
+    let midnight = Epoch { day: r.mjd, ms: 0 };
+    r.ut1_utc - tide_at_minute(midnight.minutes(r.tai_utc))
+}
+
+// The record marked 0 that gives the same UT1R: the tide of a day is taken away once, and not at every epoch.
+pub fn reduced(r: Day) -> Day
+    requires { ⌜ InDay r ⌝ }
+    ensures { λ q. ⌜ (q ≡ reducedOf r) × InRecord q ⌝ }
+{
+    Day {
+        mjd: r.mjd,
+        x: r.x,
+        y: r.y,
+        ut1_utc: ut1r(r),
+        tai_utc: r.tai_utc,
+        mark: 0,
+    }
 }
 
 // What UT1-UTC steps by from one record to the next because TAI-UTC does, in nanoseconds.
@@ -73,9 +94,7 @@ fn ut1_used(r0: Day, r1: Day, ms: i64, tide: i64) -> i64
     requires { ⌜ InRecord r0 × InRecord r1 × Holds millisecond ms × (∣ tide ∣ ≤ 2723000) ⌝ }
     ensures { λ r. ⌜ r ≡ ut1Line r0 r1 ms +ℤ tide ⌝ }
 {
-    let v0 = ut1r(r0);
-    let v1 = ut1r(r1) - leap(r0, r1);
-    line_at(v0, v1, ms) + tide
+    line_at(r0.ut1_utc, r1.ut1_utc - leap(r0, r1), ms) + tide
 }
 
 // ERA, where this UT1-UTC is used. The bias in f keeps the dividend from going below 0, where a quotient is no floor.
@@ -88,7 +107,7 @@ fn era_at(day: i64, ms: i64, ut1: i64) -> u32
     rotation_ticks(e)
 }
 
-// The earth at an epoch, from the records of its day and of the next, and from the tide of its minute.
+// The earth at an epoch, from the records of its day and of the next, both with UT1R, and from the tide of its minute.
 pub fn earth_at(r0: Day, r1: Day, e: Epoch, tide: i64) -> Earth
     requires { ⌜ InRecord r0 × InRecord r1 × Holds mjd (e .day) × Holds millisecond (e .ms) ⌝ }
     requires { ⌜ tide ≡ tideOf e (r0 .«tai_utc») ⌝ }

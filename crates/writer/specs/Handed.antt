@@ -25,7 +25,7 @@ abbrev pub ofSource : SourceAnswer → List ℤ
 ofSource r = r .id ∷ r .«right_ascension» ∷ r .declination ∷ []
 
 abbrev pub ofDay : DayAnswer → List ℤ
-ofDay r = r .mjd ∷ r .x ∷ r .y ∷ r .«ut1_utc» ∷ r .«tai_utc» ∷ []
+ofDay r = r .mjd ∷ r .x ∷ r .y ∷ r .«ut1_utc» ∷ r .«tai_utc» ∷ r .mark ∷ []
 
 abbrev pub ofPass : PassAnswer → List ℤ
 ofPass r = r .station1 ∷ r .station2 ∷ r .source ∷ r .mjd ∷ r .ms ∷ r .step ∷ r .samples ∷ r .tolerance ∷ []

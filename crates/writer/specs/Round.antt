@@ -47,20 +47,25 @@ WrittenBackAs s =
 
 -- ---- the same of the calls `write`, `check`, `station_at`, `source_at`, `day_at` and `pass_at`
 
--- `check` accepts the file s, and the records handed out of it are these lists
-pub record Hands (p q r t : List ℤ) (s : List ℕ) : Type 0 where
+-- `check` accepts the file s and says that its days have this kind, and the records handed out of it are these lists
+pub record Hands (kind : ℤ) (p q r t : List ℤ) (s : List ℕ) : Type 0 where
   pub accepted : checkOf s .refusal ≡ pos 0
+  pub day-kind : checkOf s .«day_kind» ≡ kind
   pub stations : stationsIn s ≡ p
   pub sources : sourcesIn s ≡ q
   pub days : daysIn s ≡ r
   pub passes : passesIn s ≡ t
 
--- so of what `write` wrote, where it accepts the lists
-abbrev pub ReadBack : List ℤ → List ℤ → List ℤ → List ℤ → List ℕ → Type 0
-ReadBack p q r t room = writtenOf p q r t room .refusal ≡ pos 0 → Hands p q r t (take (natAbs (writtenOf p q r t room .value)) (roomAfter p q r t room))
+-- the bytes that a call of `write` wrote, by its own answer
+abbrev pub wrote : ℤ → List ℤ → List ℤ → List ℤ → List ℤ → List ℕ → List ℕ
+wrote kind p q r t room = take (natAbs (writtenOf kind p q r t (length room) .value)) (roomAfter kind p q r t room)
 
--- where `check` accepts the bytes s, `write` of the records handed out answers their length and writes those bytes, in any room that is long enough
+-- so of what `write` wrote, where it accepts the kind and the lists
+abbrev pub ReadBack : ℤ → List ℤ → List ℤ → List ℤ → List ℤ → List ℕ → Type 0
+ReadBack kind p q r t room = writtenOf kind p q r t (length room) .refusal ≡ pos 0 → Hands kind p q r t (wrote kind p q r t room)
+
+-- where `check` accepts the bytes s, `write` of the kind of days and the records handed out answers their length and writes those bytes, in any room that is long enough
 abbrev pub WrittenBack : List ℕ → Type 0
 WrittenBack s =
     checkOf s .refusal ≡ pos 0 → (room : List ℕ) → length s ≤ length room
-    → WritePromise (stationsIn s) (sourcesIn s) (daysIn s) (passesIn s) room (number (pos (length s))) (pasted room 0 s)
+    → WritePromise (checkOf s .«day_kind») (stationsIn s) (sourcesIn s) (daysIn s) (passesIn s) room (number (pos (length s))) (pasted room 0 s)

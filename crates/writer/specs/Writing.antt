@@ -1,19 +1,21 @@
 -- Document 01, 'Session file' and 'Refusal numbers': the file of four lists of numbers, one for each place, record after record, and when the writer refuses.
 -- The writer is told the kind that each place is to have; a table t says what may stand there.
 use Prim.Native.Nat.{ℕ, zero, suc, _+_, _*_, _/_}
-use mathlib.Core.Bool.{Bool, _&&_, cond}
+use mathlib.Core.Bool.{Bool, _&&_, _||_, cond}
 use mathlib.Core.List.{List, [], _∷_, _++_}
 use lib.ListN.{length, getD}
 use lib.IntN.{ℤ, pos}
 use lib.Dec.{leb, eqb}
-use Rattle.whole.specs.Each.{allBelow}
-use Rattle.whole.specs.Values.{joined}
+use Rattle.whole.specs.Whole.{∣_∣}
+use Rattle.whole.specs.Ranges.{eqZ}
+use Rattle.whole.specs.Each.{allBelow, implies}
+use Rattle.whole.specs.Values.{firstValues, joined}
 use Rattle.whole.specs.Refusals.{unless, lowest}
 use Rattle.whole.specs.Answers.{answerBy}
 use Rattle.whole.specs.declared.Number.{Number}
 use Rattle.text.specs.Bytes.{bytesOfAll, wordsOf, pasted}
 use Rattle.sections.specs.Layouts.{Table, layoutIn, standsIn, places}
-use Rattle.sections.specs.File.{between, refusalBy}
+use Rattle.sections.specs.File.{between, refusalBy, refusalOf}
 use Rattle.writer.specs.declared.Kinds.{Kinds}
 
 -- the kind and the list of place p
@@ -70,13 +72,53 @@ module _ (t : Table) where
     unfoldable pub roomAs : List ℕ → List ℕ
     roomAs room = cond (eqb (writeRefusal (length room)) 0) (pasted room 0 fileOf) room
 
--- ---- `write`: today's table, and the kinds that it gives the four places
+-- ---- `write`: today's table, and the kind that the caller gives the days. Document 02, L4: a record of a day list has six numbers, for either kind.
 
-abbrev pub kinds : Kinds
-kinds = record { first = 1; second = 2; third = 3; fourth = 4 }
+abbrev pub kindsWith : ℕ → Kinds
+kindsWith k = record { first = 1; second = 2; third = k; fourth = 4 }
 
-abbrev pub writtenOf : List ℤ → List ℤ → List ℤ → List ℤ → List ℕ → Number
-writtenOf p q r t room = writtenAs places kinds (p ∷ q ∷ r ∷ t ∷ []) (length room)
+-- the mark of record i of a day list; and whether each of them is 0, as kind 3 has it
+abbrev pub markAt : List ℤ → ℕ → ℤ
+markAt days i = getD days (6 * i + 5) (pos 0)
 
-abbrev pub roomAfter : List ℤ → List ℤ → List ℤ → List ℤ → List ℕ → List ℕ
-roomAfter p q r t room = roomAs places kinds (p ∷ q ∷ r ∷ t ∷ []) room
+unfoldable pub unmarked : List ℤ → Bool
+unmarked days = allBelow (length days / 6) (λ (i : ℕ). eqZ (markAt days i) (pos 0))
+
+-- a day list as it stands in a file of kind 3: of each record the first five numbers
+unfoldable pub withoutMarks : List ℤ → List ℤ
+withoutMarks days = joined (length days / 6) (λ (i : ℕ). firstValues 5 (λ (j : ℕ). getD days (6 * i + j) (pos 0)))
+
+-- a day list is a right count of whole records; and so are the other three lists
+abbrev pub daysRight : List ℤ → Bool
+daysRight days = listRight places 2 5 (length days)
+
+unfoldable pub othersRight : List ℤ → List ℤ → List ℤ → Bool
+othersRight stations sources passes = listRight places 0 1 (length stations) && (listRight places 1 2 (length sources) && listRight places 3 4 (length passes))
+
+module _ (kind : ℤ) (stations sources days passes : List ℤ) where
+  -- the four lists as they stand in the file, and the file
+  abbrev pub standing : List (List ℤ)
+  standing = stations ∷ sources ∷ cond (eqZ kind (pos 3)) (withoutMarks days) days ∷ passes ∷ []
+
+  unfoldable pub fileWith : List ℕ
+  fileWith = fileOf places (kindsWith ∣ kind ∣) standing
+
+  -- the refusal, the lowest that applies: 1 where a list is not right, 2 where a mark has no place, the number that the reader gives the file, 7 where the room is
+  -- too short; of any other kind of days, 2, and then how many numbers their list has is no matter
+  unfoldable pub writeNumber : ℕ → ℕ
+  writeNumber room =
+      cond (eqZ kind (pos 3) || eqZ kind (pos 5))
+      (lowest
+      (unless (othersRight stations sources passes && daysRight days) 1
+      ∷ unless (implies (eqZ kind (pos 3)) (unmarked days)) 2
+      ∷ refusalOf fileWith
+      ∷ unless (leb (length fileWith) room) 7
+      ∷ []))
+      (lowest (unless (othersRight stations sources passes) 1 ∷ 2 ∷ []))
+
+  -- the answer and the room after the call, as of `write_as`
+  unfoldable pub writtenOf : ℕ → Number
+  writtenOf room = answerBy (writeNumber room) (pos (length fileWith))
+
+  unfoldable pub roomAfter : List ℕ → List ℕ
+  roomAfter room = cond (eqb (writeNumber (length room)) 0) (pasted room 0 fileWith) room

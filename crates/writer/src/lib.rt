@@ -2,19 +2,27 @@
 ghost use mathlib.Core.Path.{_≡_};
 ghost use mathlib.Core.Bool.{true};
 ghost use mathlib.Core.List.{[], _∷_};
-ghost use Prim.Native.Nat.{_+_, _*_, _≤_};
+ghost use Prim.Native.Nat.{_+_, _*_, _≤_, _<_};
 ghost use lib.ListN.{length};
+ghost use lib.IntN.{pos};
+ghost use Rattle.whole.specs.Answers.{noNumber};
+ghost use Rattle.whole.specs.Refusals.{unless, lowest};
 ghost use Rattle.text.specs.Bytes.{pasted, wordsOf, bytesOfAll};
 ghost use Rattle.text.specs.Put.{Put};
 ghost use Rattle.sections.specs.Layouts.{places};
-ghost use Rattle.writer.specs.Writing.{listsRight, fileOf, writeRefusal};
+ghost use Rattle.writer.specs.Writing.{kindsWith, listsRight, othersRight, fileOf, writeRefusal};
 ghost use Rattle.writer.specs.Promises.{WritePromise, WriteAsPromise};
 
 mod lists;
+mod marks;
 pub mod theorems;
 
 use lists::contents_for;
+use lists::list_right;
 use lists::lists_right;
+use lists::others_right;
+use marks::put_unmarked;
+use marks::unmarked;
 use sections::refusal::refusal_of;
 use text::bytes::put_numbers;
 use text::bytes::put_words;
@@ -59,7 +67,7 @@ fn judged(k: Kinds, p: &[i64], q: &[i64], r: &[i64], t: &[i64], room: usize) -> 
     if !lists_right(k, p, q, r, t) {
         return 1;
     }
-    let mut file = [0u8; 14_952];
+    let mut file = [0u8; 15_464];
     let n = encode(&mut file, k, p, q, r, t);
     let by_reader = refusal_of(&file[..n]);
     if by_reader != 0 {
@@ -84,10 +92,7 @@ pub fn write_as(
 {
     let refusal = judged(k, stations, sources, days, passes, room.len());
     if refusal != 0 {
-        return Number {
-            refusal: number(refusal),
-            value: 0,
-        };
+        return refused(refusal);
     }
     let n = encode(room, k, stations, sources, days, passes);
     Number {
@@ -96,21 +101,75 @@ pub fn write_as(
     }
 }
 
-// The session file of four lists of numbers, record after record, written to the start of room.
-pub fn write(
+// The kinds of the four places, by that of the days.
+fn kinds_with(third: usize) -> Kinds
+    ensures { λ r. ⌜ r ≡ kindsWith third ⌝ }
+{
+    Kinds {
+        first: 1,
+        second: 2,
+        third: third,
+        fourth: 4,
+    }
+}
+
+fn refused(n: usize) -> Number
+    requires { ⌜ n < 65536 ⌝ }
+    ensures { λ r. ⌜ r ≡ noNumber n ⌝ }
+{
+    Number {
+        refusal: number(n),
+        value: 0,
+    }
+}
+
+// The refusal where the kind of the days or a mark is wrong: a list of the others that is not right comes first.
+fn without_days(stations: &[i64], sources: &[i64], passes: &[i64]) -> Number
+    ensures { λ w. ⌜ w ≡ noNumber (lowest (unless (othersRight (now (stations .entry)) (now (sources .entry)) (now (passes .entry))) 1 ∷ 2 ∷ [])) ⌝ }
+{
+    if !others_right(stations, sources, passes) {
+        return refused(1);
+    }
+    refused(2)
+}
+
+// The file with days of kind 3, which has no marks: five numbers of each record stand in it.
+fn write_unmarked(
     stations: &[i64],
     sources: &[i64],
     days: &[i64],
     passes: &[i64],
     room: &mut [u8],
 ) -> Number
-    ensures { λ w. ⌜ WritePromise (now (stations .entry)) (now (sources .entry)) (now (days .entry)) (now (passes .entry)) (now (room .entry)) w (now (room .exit)) ⌝ }
+    ensures { λ w. ⌜ WritePromise (pos 3) (now (stations .entry)) (now (sources .entry)) (now (days .entry)) (now (passes .entry)) (now (room .entry)) w (now (room .exit)) ⌝ }
 {
-    let k = Kinds {
-        first: 1,
-        second: 2,
-        third: 3,
-        fourth: 4,
-    };
-    write_as(k, stations, sources, days, passes, room)
+    if !list_right(2, 5, days.len()) {
+        return refused(1);
+    }
+    if !unmarked(days) {
+        return without_days(stations, sources, passes);
+    }
+    let mut five = [0i64; 320];
+    let n = put_unmarked(&mut five, days);
+    write_as(kinds_with(3), stations, sources, &five[..n], passes, room)
+}
+
+// The session file of four lists of numbers, record after record, written to the start of room; its days have the kind 3 or 5.
+pub fn write(
+    day_kind: i64,
+    stations: &[i64],
+    sources: &[i64],
+    days: &[i64],
+    passes: &[i64],
+    room: &mut [u8],
+) -> Number
+    ensures { λ w. ⌜ WritePromise day_kind (now (stations .entry)) (now (sources .entry)) (now (days .entry)) (now (passes .entry)) (now (room .entry)) w (now (room .exit)) ⌝ }
+{
+    if day_kind == 3 {
+        return write_unmarked(stations, sources, days, passes, room);
+    }
+    if day_kind == 5 {
+        return write_as(kinds_with(5), stations, sources, days, passes, room);
+    }
+    without_days(stations, sources, passes)
 }

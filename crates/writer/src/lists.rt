@@ -4,12 +4,12 @@ ghost use mathlib.Core.Bool.{true};
 ghost use mathlib.Core.List.{[], _∷_};
 ghost use Prim.Native.Nat.{_/_, _<_};
 ghost use Rattle.sections.specs.Layouts.{places};
-ghost use Rattle.writer.specs.Writing.{sizeIn, listRight, listsRight, contentsFor};
+ghost use Rattle.writer.specs.Writing.{sizeIn, listRight, listsRight, othersRight, contentsFor};
 use crate::Kinds;
 use sections::layouts::layout_in;
 
 // Whether n numbers are a right count of whole records of a kind in a place.
-fn list_right(place: usize, kind: usize, n: usize) -> bool
+pub fn list_right(place: usize, kind: usize, n: usize) -> bool
     requires { ⌜ place < 4 ⌝ }
     ensures { λ r. ⌜ r ≡ listRight places place kind n ⌝ }
 {
@@ -41,6 +41,19 @@ pub fn lists_right(k: Kinds, p: &[i64], q: &[i64], r: &[i64], t: &[i64]) -> bool
         return false;
     }
     list_right(3, k.fourth, t.len())
+}
+
+// Whether the stations, the sources and the passes are right counts of whole records.
+pub fn others_right(stations: &[i64], sources: &[i64], passes: &[i64]) -> bool
+    ensures { λ b. ⌜ b ≡ othersRight (now (stations .entry)) (now (sources .entry)) (now (passes .entry)) ⌝ }
+{
+    if !list_right(0, 1, stations.len()) {
+        return false;
+    }
+    if !list_right(1, 2, sources.len()) {
+        return false;
+    }
+    list_right(3, 4, passes.len())
 }
 
 // How many records n numbers are.

@@ -40,20 +40,24 @@ pub fn writes_back_as(file: &[u8])
     let n = refusal_of(file);
 }
 
-// What `write` writes is read back: for every four lists and every room.
-pub fn reads_back(stations: &[i64], sources: &[i64], days: &[i64], passes: &[i64], room: &[u8])
-    ensures { λ _. ⌜ ReadBack (now (stations .entry)) (now (sources .entry)) (now (days .entry)) (now (passes .entry)) (now (room .entry)) ⌝ }
+// What `write` writes is read back: for any kind of days, every four lists and every room.
+pub fn reads_back(
+    day_kind: i64,
+    stations: &[i64],
+    sources: &[i64],
+    days: &[i64],
+    passes: &[i64],
+    room: &[u8],
+)
+    ensures { λ _. ⌜ ReadBack day_kind (now (stations .entry)) (now (sources .entry)) (now (days .entry)) (now (passes .entry)) (now (room .entry)) ⌝ }
 {
-    let k = Kinds {
-        first: 1,
-        second: 2,
-        third: 3,
-        fourth: 4,
-    };
-    reads_back_as(k, stations, sources, days, passes, room);
+    each_fits(stations);
+    each_fits(sources);
+    each_fits(days);
+    each_fits(passes);
 }
 
-// An accepted file is the one that `write` makes of its records: for every file.
+// An accepted file is the one that `write` makes of its kind of days and its records: for every file.
 pub fn writes_back(file: &[u8])
     ensures { λ _. ⌜ WrittenBack (now (file .entry)) ⌝ }
 {

@@ -1,0 +1,35 @@
+// A day list for kind 3, whose records have no mark. Document 02, L4.
+ghost use mathlib.Core.Path.{_≡_};
+ghost use mathlib.Core.List.{_++_};
+ghost use Prim.Native.Nat.{_/_, _*_, _≤_};
+ghost use lib.ListN.{length, drop};
+ghost use Rattle.writer.specs.Writing.{unmarked, withoutMarks};
+
+// Whether each record of a day list is marked 0.
+pub fn unmarked(days: &[i64]) -> bool
+    ensures { λ r. ⌜ r ≡ unmarked (now (days .entry)) ⌝ }
+{
+    let records = days.len() / 6;
+    let mut i: usize = 0;
+    while i < records {
+        if days[6 * i + 5] != 0 {
+            return false;
+        }
+        i += 1;
+    }
+    true
+}
+
+// The first five numbers of each record, from the start of the room; how many numbers these are.
+pub fn put_unmarked(room: &mut [i64; 320], days: &[i64]) -> usize
+    requires { ⌜ length (now days) / 6 ≤ 64 ⌝ }
+    ensures { λ n. ⌜ (n ≡ length (withoutMarks (now (days .entry)))) × (n ≤ 320) × (now (room .exit) ≡ withoutMarks (now (days .entry)) ++ drop n (now (room .entry))) ⌝ }
+{
+    let n = 5 * (days.len() / 6);
+    let mut i: usize = 0;
+    while i < n {
+        room[i] = days[i + i / 5];
+        i += 1;
+    }
+    n
+}
