@@ -1,19 +1,21 @@
 -- What every layout that may stand in a place has, the layout that stands there in an accepted file has too: its fields' ranges, its order, its counts.
 -- Assumes nothing.
-use mathlib.Core.Path.{_≡_, sym, ap}
-use Prim.Native.Nat.{ℕ, _+_, _*_, _≤_, _<_}
+use mathlib.Core.Path.{_≡_, refl, sym, ap, _∙_}
+use Prim.Native.Nat.{ℕ, zero, suc, _+_, _-_, _*_, _≤_, _<_}
 use native.Mathlib.Nat.{add-zero}
 use native.Mathlib.Omega.{arith}
-use mathlib.Core.Bool.{Bool, true, not, _&&_, _||_}
-use mathlib.Core.List.{List}
-use lib.ListN.{length}
-use lib.IntN.{ℤ}
+use mathlib.Core.Bool.{Bool, true, false, not, _&&_, _||_}
+use mathlib.Core.List.{List, _++_}
+use lib.ListN.{length, getD, replicate}
+use lib.Seq.{getD-append-add}
+use lib.IntN.{ℤ, pos}
 use lib.Dec.{eqb, leb, ltb}
 use borrow.Author.Tests.{eqb-true, leb-true, ltb-true}
 use Rattle.whole.specs.Each.{firstNot}
+use Rattle.whole.specs.Values.{firstValues}
 use Rattle.whole.proofs.Linear.{and-true}
 use Rattle.whole.proofs.Each.{below-each, first-same}
-use Rattle.whole.proofs.Values.{sample-at}
+use Rattle.whole.proofs.Values.{values-long, sample-at}
 use Rattle.text.specs.Words.{numberAt}
 use Rattle.fields.specs.declared.ranges.Range.{Range}
 use Rattle.fields.specs.Ranges.{Holds, inside}
@@ -36,6 +38,10 @@ use Rattle.session.specs.Records.{placeBy}
 abbrev pub hasField : ℕ → Range → Layout → Bool
 hasField k r l = ltb k (length (l .fields)) && (eqZ (rangeOf l k .low) (r .low) && eqZ (rangeOf l k .high) (r .high))
 
+-- it has, or it has no field k and 0 lies in r
+abbrev pub mayHave : ℕ → Range → Layout → Bool
+mayHave k r l = hasField k r l || (leb (length (l .fields)) k && inside r (pos 0))
+
 -- its records keep the order o
 abbrev pub hasOrder : ℕ → Layout → Bool
 hasOrder o l = eqb (l .order) o
@@ -52,6 +58,20 @@ hasMost n l = leb (l .most) n
 pub row-number : (t : Table) (s : List ℕ) (p i k : ℕ) → k < sizeOf t s p → numberIn (rowOf t s p i) k ≡ fieldAt t s p i k
 unfolding rowOf
 row-number t s p i k l = sample-at (sizeOf t s p) (fieldAt t s p i) _ k l
+
+-- behind its fields the row has zeros
+zeros-at : (n k : ℕ) → getD (replicate n (pos 0)) k (pos 0) ≡ pos 0
+zeros-at zero k = refl
+zeros-at (suc n) zero = refl
+zeros-at (suc n) (suc k) = zeros-at n k
+
+pub row-none : (t : Table) (s : List ℕ) (p i k : ℕ) → sizeOf t s p ≤ k → numberIn (rowOf t s p i) k ≡ pos 0
+unfolding rowOf
+row-none t s p i k l =
+    let n = sizeOf t s p in
+    let zs = firstValues n (fieldAt t s p i) in
+    let e : k ≡ length zs + (k - n) = omega (arith, l, values-long n (fieldAt t s p i)) in
+    ap (numberIn (zs ++ replicate (8 - n) (pos 0))) e ∙ getD-append-add zs (replicate (8 - n) (pos 0)) (k - n) (pos 0) ∙ zeros-at (8 - n) (k - n)
 
 module _ (s : List ℕ) (h : refusalOf s ≡ 0) (p : ℕ) (a : p < 4) where
   pub of-place : (test : Layout → Bool) → allOf test (layoutsIn places p) ≡ true → test (layoutOf places s p) ≡ true
@@ -72,30 +92,46 @@ module _ (s : List ℕ) (h : refusalOf s ≡ 0) (p : ℕ) (a : p < 4) where
   pub first-number : (i : ℕ) → numberIn (rowOf places s p i) 0 ≡ fieldAt places s p i 0
   first-number i = row-number places s p i 0 (size-one today s (accepted-contents today s h) p a)
 
-  has-field : (k : ℕ) (r : Range) → allOf (hasField k r) (layoutsIn places p) ≡ true
-      → (k < sizeOf places s p) × (rangeOf (layoutOf places s p) k .low ≡ r .low) × (rangeOf (layoutOf places s p) k .high ≡ r .high)
-  has-field k r e =
-      let l = layoutOf places s p in
-      let w = and-true (ltb k (length (l .fields))) _ (of-place (hasField k r) e) in
-      let v = and-true (eqZ (rangeOf l k .low) (r .low)) _ (w .1) in
-      (ltb-true _ _ (w .0), eqZ-true _ _ (v .0), eqZ-true _ _ (v .1))
+  -- of a layout with a field k of range r that stands in the place
+  module _ (i : ℕ) (b : i < countOf s p) (k : ℕ) (r : Range) (e : hasField k r (layoutOf places s p) ≡ true) where
+    has-field : (k < sizeOf places s p) × (rangeOf (layoutOf places s p) k .low ≡ r .low) × (rangeOf (layoutOf places s p) k .high ≡ r .high)
+    has-field =
+        let l = layoutOf places s p in
+        let w = and-true (ltb k (length (l .fields))) _ e in
+        let v = and-true (eqZ (rangeOf l k .low) (r .low)) _ (w .1) in
+        (ltb-true _ _ (w .0), eqZ-true _ _ (v .0), eqZ-true _ _ (v .1))
 
-  module _ (i : ℕ) (b : i < countOf s p) (k : ℕ) (r : Range) (e : allOf (hasField k r) (layoutsIn places p) ≡ true) where
     inside-range : inside (rangeOf (layoutOf places s p) k) (fieldAt places s p i k) ≡ true
     unfolding rangesRight sectionRight recordRight fieldRight
     inside-range =
-        below-each (sizeOf places s p) k (fieldRight places s p i) (has-field k r e .0)
+        below-each (sizeOf places s p) k (fieldRight places s p i) (has-field .0)
         (below-each (countOf s p) i (recordRight places s p) b (below-each 4 p (sectionRight places s) a (accepted-ranges today s h)))
 
     -- field k of a record lies in r, and so does number k of its row
-    pub field-in : Holds r (fieldAt places s p i k)
-    field-in =
-        let f = has-field k r e in
+    its-field : Holds r (fieldAt places s p i k)
+    its-field =
         let w = inside-holds (rangeOf (layoutOf places s p) k) (fieldAt places s p i k) inside-range in
-        rw (f .1, f .2) at w
+        rw (has-field .1, has-field .2) at w
 
-    pub number-in : Holds r (numberIn (rowOf places s p i) k)
-    number-in = rw (row-number places s p i k (has-field k r e .0)) field-in
+    its-number : Holds r (numberIn (rowOf places s p i) k)
+    its-number = rw (row-number places s p i k (has-field .0)) its-field
+
+  module _ (i : ℕ) (b : i < countOf s p) (k : ℕ) (r : Range) where
+    pub field-in : allOf (hasField k r) (layoutsIn places p) ≡ true → Holds r (fieldAt places s p i k)
+    field-in e = its-field i b k r (of-place (hasField k r) e)
+
+    -- number k of a row is 0 where its kind has no field k
+    pub number-in : allOf (mayHave k r) (layoutsIn places p) ≡ true → Holds r (numberIn (rowOf places s p i) k)
+    number-in e = by (hasField k r l) refl (of-place (mayHave k r) e)
+      where
+        l : Layout
+        l = layoutOf places s p
+
+        by : (c : Bool) → hasField k r l ≡ c → (c || (leb (length (l .fields)) k && inside r (pos 0))) ≡ true → Holds r (numberIn (rowOf places s p i) k)
+        by true q e = its-number i b k r q
+        by false q e =
+            let w = and-true (leb (length (l .fields)) k) (inside r (pos 0)) e in
+            rw (row-none places s p i k (leb-true _ _ (w .0))) (inside-holds r (pos 0) (w .1))
 
 -- the search for a record, over bytes
 pub places-same : (s : List ℕ) (p : ℕ) (z : ℤ) → firstNot (countOf s p) (otherBy s (firstByte s p) (sizeOf places s p) z) ≡ placeBy s p z

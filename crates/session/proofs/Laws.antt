@@ -16,11 +16,11 @@ use Rattle.whole.specs.Whole.{posPart, negPart}
 use Rattle.whole.specs.Each.{allBelow}
 use Rattle.whole.proofs.Linear.{add-law, ltZ-true, ⇒eq, eq⇒}
 use Rattle.whole.proofs.Each.{below-each, first-hit, all-none, below-all, first-fails}
-use Rattle.fields.specs.Ranges.{idNumber, coordinate, rightAscension, declination, mjd, pole, ut1utc, taiutc, millisecond, step, samples, tolerance}
+use Rattle.fields.specs.Ranges.{idNumber, coordinate, rightAscension, declination, mjd, pole, ut1utc, taiutc, mark, millisecond, step, samples, tolerance}
 use Rattle.fields.specs.Records.{InStation, InSource, InDay, InPass, stationFrom, sourceFrom, dayFrom, passFrom}
-use Rattle.sections.specs.Layouts.{places, layoutsIn, rising, consecutive}
+use Rattle.sections.specs.Layouts.{places, layoutsIn, layoutIn, rising, consecutive}
 use Rattle.whole.specs.Ranges.{eqZ}
-use Rattle.sections.specs.File.{refusalOf, countOf, layoutOf, fieldAt, steps, stepRight, orderRight}
+use Rattle.sections.specs.File.{refusalOf, kindOf, countOf, layoutOf, fieldAt, steps, stepRight, orderRight}
 use Rattle.sections.proofs.Shapes.{allOf, today}
 use Rattle.whole.proofs.Order.{eqZ-true, eqZ-refl}
 use Rattle.whole.proofs.Order.{lt-yes}
@@ -28,7 +28,7 @@ use Rattle.sections.proofs.Numbers.{steps-rising, steps-consecutive}
 use Rattle.sections.proofs.Sound.{counts-one}
 use Rattle.sections.proofs.Accepted.{accepted-contents, accepted-ids, accepted-days}
 use Rattle.session.specs.Records.{stationOf, sourceOf, dayOf, passOf, placeBy}
-use Rattle.session.proofs.Fields.{hasAnOrder, of-place, place-order, first-number, field-in, number-in}
+use Rattle.session.proofs.Fields.{hasAnOrder, of-place, place-order, row-none, first-number, field-in, number-in}
 use Rattle.session.proofs.Past.{Past, past}
 
 -- ---- each record has its fields in their ranges
@@ -50,7 +50,7 @@ module _ (s : List ℕ) (h : refusalOf s ≡ 0) (i : ℕ) where
   unfolding dayOf dayFrom places
   day-in l =
       let f = number-in s h 2 (omega arith) i l in
-      record { mjd = f 0 mjd refl; x = f 1 pole refl; y = f 2 pole refl; ut1-utc = f 3 ut1utc refl; tai-utc = f 4 taiutc refl }
+      record { mjd = f 0 mjd refl; x = f 1 pole refl; y = f 2 pole refl; ut1-utc = f 3 ut1utc refl; tai-utc = f 4 taiutc refl; mark = f 5 mark refl }
 
   pub pass-in : i < countOf s 3 → InPass (passOf s i)
   unfolding passOf passFrom places
@@ -120,6 +120,11 @@ module _ (s : List ℕ) (h : refusalOf s ≡ 0) where
   day-plus =
       follows (λ (i : ℕ). fieldAt places s 2 i 0) (countOf s 2)
       (λ i l. eqZ-true _ _ (sym (steps-consecutive _ _) ∙ ordered s consecutive 2 (accepted-days today s h) (omega arith) (place-order s h 2 (omega arith) consecutive refl) i l))
+
+  -- a record of kind 3 counts as marked 0
+  pub day-unmarked : (i : ℕ) → kindOf s 2 ≡ 3 → dayOf s i .mark ≡ pos 0
+  unfolding dayOf dayFrom layoutIn places
+  day-unmarked i e = row-none places s 2 i 5 (rw e (omega arith))
 
   pub day-first : (i : ℕ) → dayOf s i .mjd ≡ fieldAt places s 2 i 0
   unfolding dayOf dayFrom
