@@ -1,5 +1,6 @@
 -- Laws of the day values: what a caller may lean on, whatever the line of UT1-UTC is. Assumes nothing.
-use mathlib.Core.Path.{_≡_, ap, _∙_}
+use mathlib.Core.Path.{_≡_, refl, ap, _∙_}
+use mathlib.Core.Bool.{Bool, true, false, cond}
 use Prim.Native.Nat.{ℕ, _+_, _≤_}
 use native.Mathlib.Nat.{le-refl, le-trans}
 use native.Mathlib.Omega.{arith}
@@ -7,11 +8,14 @@ use lib.Dec.{lit≤}
 use lib.IntN.{ℤ, pos, _+ℤ_, _-ℤ_, _*ℤ_}
 use lib.Signed.{_≤ℤ_}
 use Rattle.whole.specs.Whole.{posPart, negPart, ∣_∣, line, floorZ}
+use Rattle.whole.specs.Ranges.{eqZ}
+use Rattle.whole.proofs.Order.{not-so, eqZ-true}
 use Rattle.whole.proofs.Linear.{zarith, sub-lawℤ, parts-le, abs-add, abs-sub, abs-mul≤, size-to, in-le}
 use Rattle.whole.proofs.Quote.{⟨_⟩, #, _⊕_, _⊝_, _⊗_, ⊖, by≡, by≤, of≤, of<}
 use Rattle.whole.proofs.Rounding.{R-mul, line-size, floor-lo, floor-hi}
 use Rattle.earth.specs.Ranges.{microsecond}
 use Rattle.earth.specs.declared.time.Epoch.{Epoch}
+use Rattle.earth.specs.Calls.{epochOf}
 use Rattle.earth.specs.TideInUT1.{tideOf}
 use Rattle.earth.proofs.Floors.{in-abs}
 use Rattle.earth.proofs.TideInUT1.{tide-most}
@@ -19,7 +23,8 @@ use Rattle.fields.specs.Ranges.{Holds, pole, ut1utc, millisecond}
 use Rattle.fields.specs.Records.{InDay}
 use Rattle.fields.specs.declared.Day.{Day}
 use Rattle.wave.specs.Bounds.{InRecord, InEarth}
-use Rattle.wave.specs.DayValues.{ut1rOf, leapOf, ut1Line, ut1Used, fOf, earthOf}
+use Rattle.wave.specs.DayValues.{tideIn, ut1rOf, leapOf, ut1Line, ut1Used, fOf, earthOf}
+use Rattle.wave.specs.Keeping.{reducedOf}
 
 pub ms-lo : {u : ℤ} → Holds millisecond u → pos 0 ≤ℤ u
 ms-lo {u} h = parts-le (pos 0) u (h .p-lo) (h .n-lo)
@@ -37,14 +42,37 @@ between-size v0 v1 u k h a b = line-size v0 v1 u k (ms-lo h) (ms-day h) a b
 pub pole-between : (v0 v1 u : ℤ) → Holds millisecond u → Holds pole v0 → Holds pole v1 → Holds pole (line v0 v1 u)
 pole-between v0 v1 u h a b = omega (arith, between-size v0 v1 u (posPart (pole .high)) h (in-abs v0 a) (in-abs v1 b))
 
--- the UT1R that a record gives, by the range of its field
+pub tide-size : (e : Epoch) (L : ℤ) → ∣ tideOf e L ∣ ≤ 2723000
+unfolding tideOf
+tide-size e L = tide-most _
+
+-- ---- the UT1R that a record gives, by its mark. Document 02, L4.
+
+pub ut1r-marked : (r : Day) → r .mark ≡ pos 1 → ut1rOf r ≡ r .«ut1_utc» -ℤ tideIn r
+unfolding ut1rOf
+ut1r-marked r e = rw e
+
+pub ut1r-other : (r : Day) → (r .mark ≡ pos 1 → ⊥) → ut1rOf r ≡ r .«ut1_utc»
+unfolding ut1rOf
+ut1r-other r f = rw (not-so (eqZ (r .mark) (pos 1)) (λ e. f (eqZ-true (r .mark) (pos 1) e)))
+
+pub ut1r-unmarked : (r : Day) → r .mark ≡ pos 0 → ut1rOf r ≡ r .«ut1_utc»
+unfolding ut1rOf
+ut1r-unmarked r e = rw e
+
+-- it may be beyond the range of its field by the tide
 pub ut1r-size : (r : Day) → Holds ut1utc (r .«ut1_utc») → ∣ ut1rOf r ∣ ≤ 902_723_000
 unfolding ut1rOf
-ut1r-size r h = le-trans (in-abs (r .«ut1_utc») h) (lit≤ tt)
+ut1r-size r h = by (eqZ (r .mark) (pos 1))
+  where
+    by : (b : Bool) → ∣ cond b (r .«ut1_utc» -ℤ tideIn r) (r .«ut1_utc») ∣ ≤ 902_723_000
+    by true = omega (arith, in-abs (r .«ut1_utc») h, abs-sub (r .«ut1_utc») (tideIn r), tide-size (epochOf (r .mjd) (pos 0)) (r .«tai_utc»))
+    by false = le-trans (in-abs (r .«ut1_utc») h) (lit≤ tt)
 
--- a day's record with its fields in their ranges
-pub record-in : (r : Day) → InDay r → InRecord r
-record-in r h = record { x = h .x; y = h .y; ut1-size = ut1r-size r (h .ut1-utc); tai = h .tai-utc }
+-- a day's record with its fields in their ranges, with UT1R
+pub record-in : (r : Day) → InDay r → InRecord (reducedOf r)
+record-in r h =
+    record { x = h .x; y = h .y; ut1-size = rw (ut1r-unmarked (reducedOf r) refl) (ut1r-size r (h .ut1-utc)); tai = h .tai-utc; unmarked = refl }
 
 -- at most 99 seconds
 pub leap-size : (r0 r1 : Day) → InRecord r0 → InRecord r1 → ∣ leapOf r0 r1 ∣ ≤ 99000000000
@@ -87,10 +115,6 @@ ut1-line-size r0 r1 u a b h =
     let h0 = a .ut1-size in
     let h1 = b .ut1-size in
     between-size (ut1rOf r0) (ut1rOf r1 -ℤ leapOf r0 r1) u 99902723000 h (omega arith) (omega (arith, abs-sub (ut1rOf r1) (leapOf r0 r1), leap-size r0 r1 a b))
-
-pub tide-size : (e : Epoch) (L : ℤ) → ∣ tideOf e L ∣ ≤ 2723000
-unfolding tideOf
-tide-size e L = tide-most _
 
 pub ut1-used-size : (r0 r1 : Day) (e : Epoch) → InRecord r0 → InRecord r1 → Holds millisecond (e .ms) → ∣ ut1Used r0 r1 e ∣ ≤ 99905446000
 unfolding ut1Used

@@ -1,4 +1,5 @@
 pub mod DayLaws
+pub mod Marks
 pub mod Sights
 pub mod Sizes
 pub mod Swapped

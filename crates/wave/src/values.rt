@@ -9,7 +9,7 @@ ghost use mathlib.Core.Path.{_≡_};
 ghost use Prim.Native.Nat.{_^_, _<_, _≤_};
 ghost use lib.IntN.{_+ℤ_};
 ghost use Rattle.whole.specs.Whole.{∣_∣};
-ghost use Rattle.fields.specs.Ranges.{Holds, mjd, millisecond};
+ghost use Rattle.fields.specs.Ranges.{Holds, mjd, taiutc, millisecond};
 ghost use Rattle.fields.specs.Records.{InDay};
 ghost use Rattle.earth.specs.Angle.{eraOf};
 ghost use Rattle.earth.specs.Minutes.{minutesOf};
@@ -48,7 +48,7 @@ pub fn minute_at(kept: Minute, n: i64) -> Minute
 
 // The minute of TT of an epoch, by the TAI-UTC of its day's record.
 pub fn minutes_by(r0: Day, e: Epoch) -> i64
-    requires { ⌜ InRecord r0 × Holds mjd (e .day) × Holds millisecond (e .ms) ⌝ }
+    requires { ⌜ Holds taiutc (r0 .«tai_utc») × Holds mjd (e .day) × Holds millisecond (e .ms) ⌝ }
     ensures { λ n. ⌜ (n ≡ minutesOf e (r0 .«tai_utc»)) × (∣ n ∣ < 2 ^ 26) ⌝ }
 {
     e.minutes(r0.tai_utc)
@@ -63,7 +63,7 @@ fn ut1r(r: Day) -> i64
         return r.ut1_utc;
     }
     let midnight = Epoch { day: r.mjd, ms: 0 };
-    r.ut1_utc - tide_at_minute(midnight.minutes(r.tai_utc))
+    r.ut1_utc - tide_at_minute(minutes_by(r, midnight))
 }
 
 // The record marked 0 that gives the same UT1R: the tide of a day is taken away once, and not at every epoch.
