@@ -13,6 +13,7 @@ use Rattle.sections.specs.File.{refusalOf, countOf}
 use Rattle.session.specs.Records.{stationOf, sourceOf, placeBy, dayBy}
 use Rattle.session.proofs.Laws.{station-in, source-in, day-in, day-first, place-has}
 use Rattle.wave.specs.Bounds.{InRecord}
+use Rattle.wave.specs.Keeping.{reducedOf}
 use Rattle.wave.proofs.DayLaws.{record-in}
 use Rattle.delay.specs.declared.records.Places.{Places}
 use Rattle.delay.specs.Keeping.{placesThere}
@@ -31,7 +32,7 @@ module _ (s : List ℕ) (accepted : refusalOf s ≡ 0) where
       let l = places-in n e in
       (station-in s accepted (n .first) (l .0), station-in s accepted (n .second) (l .1), source-in s accepted (n .source) (l .2))
 
-  pub day-by-in : (z : ℤ) → hasId s 2 z ≡ true → InRecord (dayBy s z)
+  pub day-by-in : (z : ℤ) → hasId s 2 z ≡ true → InRecord (reducedOf (dayBy s z))
   day-by-in z e = record-in (dayBy s z) (day-in s accepted (placeBy s 2 z) (ltb-true (placeBy s 2 z) (countOf s 2) e))
 
   -- a day whose record is there lies in the file's range

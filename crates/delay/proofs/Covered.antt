@@ -24,11 +24,12 @@ use Rattle.sections.specs.File.{refusalOf, countOf, fieldAt}
 use Rattle.whole.proofs.Each.{below-each, below-all}
 use Rattle.whole.proofs.Tests.{and-yes, same-test}
 use Rattle.fields.specs.declared.Pass.{Pass}
-use Rattle.session.specs.Records.{placeBy}
+use Rattle.session.specs.Records.{placeBy, dayBy}
 use Rattle.session.proofs.Laws.{place-has, day-plus, day-place}
 use Rattle.wave.specs.Bounds.{InRecord, InEarth}
 use Rattle.wave.specs.DayValues.{earthOf}
 use Rattle.wave.proofs.DayLaws.{earth-size}
+use Rattle.wave.proofs.Marks.{earth-reduced}
 use Rattle.delay.specs.declared.records.Days.{Days}
 use Rattle.delay.specs.Calls.{samplesOf, allCovered}
 use Rattle.delay.specs.Keeping.{daysFrom}
@@ -60,7 +61,7 @@ module _ (s : List ℕ) (e : Epoch) (accepted : refusalOf s ≡ 0) (c : covers s
 
   pub earth-by : earthOf (d .today) (d .next) e ≡ earthIn s e
   unfolding earthIn
-  earth-by = ap (λ (x : Days). earthOf (x .today) (x .next) e) are
+  earth-by = ap (λ (x : Days). earthOf (x .today) (x .next) e) are ∙ earth-reduced (dayBy s (e .day)) (dayBy s (e .day +ℤ pos 1)) e
 
 -- the earth at an epoch that is covered
 pub earth-in-size : (s : List ℕ) (e : Epoch) → refusalOf s ≡ 0 → covers s (e .day) ≡ true → Holds millisecond (e .ms) → InEarth (earthIn s e)

@@ -2,6 +2,7 @@
 use crate::records::Days;
 use crate::records::day_in;
 use crate::records::days_from;
+use crate::records::days_with;
 use earth::Epoch;
 use earth::rows::tide_at_minute;
 use fields::Day;
@@ -66,11 +67,7 @@ fn days_at(s: &[u8], kept: Days, day: i64) -> Days
     if kept.day == day {
         return kept;
     }
-    Days {
-        day: day,
-        today: today_at(s, kept, day),
-        next: day_in(s, day + 1),
-    }
+    days_with(s, day, today_at(s, kept, day))
 }
 
 // The delay along a sight at an epoch that the file covers.

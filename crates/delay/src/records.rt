@@ -112,16 +112,24 @@ pub fn day_in(s: &[u8], day: i64) -> Day
     reduced(day_of(s, day_place(s, day)))
 }
 
+// The records of a day that the file covers, of which that of the day itself is there already, and of the next.
+pub fn days_with(s: &[u8], day: i64, today: Day) -> Days
+    requires { ⌜ (refusalOf (now s) ≡ 0) × (covers (now s) day ≡ true) × (today ≡ reducedOf (dayBy (now s) day)) ⌝ }
+    ensures { λ r. ⌜ r ≡ daysFrom (now (s .entry)) day ⌝ }
+{
+    Days {
+        day: day,
+        today: today,
+        next: day_in(s, day + 1),
+    }
+}
+
 // The records of a day that the file covers, and of the next.
 pub fn days_from(s: &[u8], day: i64) -> Days
     requires { ⌜ (refusalOf (now s) ≡ 0) × (covers (now s) day ≡ true) ⌝ }
     ensures { λ r. ⌜ r ≡ daysFrom (now (s .entry)) day ⌝ }
 {
-    Days {
-        day: day,
-        today: day_in(s, day),
-        next: day_in(s, day + 1),
-    }
+    days_with(s, day, day_in(s, day))
 }
 
 // The earth at an epoch that the file covers.

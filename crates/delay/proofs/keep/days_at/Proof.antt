@@ -11,13 +11,16 @@ returns c =
     let s = c .before .before .before .before in
     s .pre .2 ∙ ap (daysFrom (s .args .s .now)) (bits-eq (record { sfits = c .before .struct-told .given .0 .1 }) (s .fits .day) (c .if1 .taken))
 
-days-from-requires : tie.Need-days-from-requires
-days-from-requires c κs = search needs
+today-at-requires : tie.Need-today-at-requires
+today-at-requires c κs = search needs
+
+days-with-requires : tie.Need-days-with-requires
+days-with-requires c κs = search needs
 
 returns-2 : tie.Need-returns-2
 returns-2 c =
-    let s = c .before .before .before .before .before in
-    c .days-from .ensures ∙ ap (daysFrom (s .args .s .now)) (back (s .fits .day))
+    let s = c .before .before .before .before .before .before in
+    c .days-with .ensures ∙ ap (daysFrom (s .args .s .now)) (back (s .fits .day))
 
 pub days-at-spec : {M : Type 1} → statement M
-days-at-spec = tie.close (tie.spec returns days-from-requires returns-2)
+days-at-spec = tie.close (tie.spec returns today-at-requires days-with-requires returns-2)

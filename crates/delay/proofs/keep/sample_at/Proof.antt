@@ -48,7 +48,7 @@ module _ (c : tie.After-days-at) where
 minutes-by-requires : tie.Need-minutes-by-requires
 minutes-by-requires c κs =
     let s = start c in
-    (today c, day-in (file s) (day s) (s .pre .0 .0) (s .pre .1 .0), s .pre .1 .1)
+    (today c .tai, day-in (file s) (day s) (s .pre .0 .0) (s .pre .1 .0), s .pre .1 .1)
 
 n-back : (c : tie.After-minutes-by) → toZ w64 (ofZ w64 (c .minutes-by .result)) ≡ c .minutes-by .result
 n-back c = ret (c .minutes-by .result) (c .minutes-by .ok)

@@ -41,7 +41,7 @@ module _ (c : tie.After-days-from) where
 minutes-by-requires : tie.Need-minutes-by-requires
 minutes-by-requires c κs =
     let s = start c in
-    (today c, day-in (file s) (day s) (s .pre .0) (s .pre .1), s .pre .2)
+    (today c .tai, day-in (file s) (day s) (s .pre .0) (s .pre .1), s .pre .2)
 
 n-back : (c : tie.After-minutes-by) → toZ w64 (ofZ w64 (c .minutes-by .result)) ≡ c .minutes-by .result
 n-back c = ret (c .minutes-by .result) (c .minutes-by .ok)

@@ -20,15 +20,15 @@ returns c =
     let g = c .struct-told .given in
     let u = c .before .ut1r in
     let e : _≡_ {A = Day} _ (reducedOf r) =
-        λ j.
-        record {
-          mjd = ret (r .mjd) (g .0 .1) j;
-          x = ret (r .x) (g .1 .0 .1) j;
-          y = ret (r .y) (g .1 .1 .0 .1) j;
-          «ut1_utc» = (ret (u .result) (u .ok) ∙ u .ensures) j;
-          «tai_utc» = ret (r .«tai_utc») (g .1 .1 .1 .1 .0 .1) j;
-          mark = pos 0;
-        }
+    λ j.
+    record {
+      mjd = ret (r .mjd) (g .0 .1) j;
+      x = ret (r .x) (g .1 .0 .1) j;
+      y = ret (r .y) (g .1 .1 .0 .1) j;
+      «ut1_utc» = (ret (u .result) (u .ok) ∙ u .ensures) j;
+      «tai_utc» = ret (r .«tai_utc») (g .1 .1 .1 .1 .0 .1) j;
+      mark = pos 0;
+    }
     in
     (e, subst InRecord (sym e) (record-in r (s .pre)))
 
