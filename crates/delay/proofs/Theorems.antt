@@ -122,7 +122,7 @@ delay-in-size s a b r e h t c m =
     between-size (stationBy s a) (stationBy s b) (sourceBy s r) (earthIn s e) (n .0) (n .1) (earth-in-size s e h c m)
 
 -- what it says that a call of `delay` is not refused
-delay-clear : (s : List ℕ) (a b r day ms : ℤ) → delayNumber s a b r day ms ≡ 0 → (refusalOf s ≡ 0) × (allThere s a b r ≡ true) × (covers s day ≡ true) × Holds millisecond ms
+pub delay-clear : (s : List ℕ) (a b r day ms : ℤ) → delayNumber s a b r day ms ≡ 0 → (refusalOf s ≡ 0) × (allThere s a b r ≡ true) × (covers s day ≡ true) × Holds millisecond ms
 delay-clear s a b r day ms e =
     let o = askedOk a b r day ms in
     let t = allThere s a b r in

@@ -27,7 +27,7 @@ returns c =
     let s = c .before .before .before .before .before in
     let k = s .args .kept in
     let before : k .day ≡ s .args .day -ℤ pos 1 =
-        sym (ret (k .day) (c .before .before .struct-told .given .0 .1)) ∙ ap (toZ w64) (c .before .if1 .taken) ∙ is (yesterday s) tt
+    sym (ret (k .day) (c .before .before .struct-told .given .0 .1)) ∙ ap (toZ w64) (c .before .if1 .taken) ∙ is (yesterday s) tt
     in
     ap (λ (d : Days). d .next) (s .pre .2)
     ∙ ap (λ (d : ℤ). reducedOf (dayBy (s .args .s .now) d)) (ap (λ (d : ℤ). d +ℤ pos 1) before ∙ by≡ (⟨ s .args .day ⟩ ⊝ # 1 ⊕ # 1) ⟨ s .args .day ⟩ (omega arith))
