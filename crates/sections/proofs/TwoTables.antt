@@ -13,8 +13,8 @@ use Rattle.whole.specs.Each.{allBelow, implies}
 use Rattle.whole.proofs.Each.{all-same}
 use Rattle.text.specs.Words.{numberAt}
 use Rattle.fields.specs.Ranges.{inside}
-use Rattle.sections.specs.Layouts.{Layout, Table, withKind, ofKind, anyOfKind, layoutsIn, layoutIn, standsIn, rising, consecutive}
-use Rattle.sections.specs.File.{kindOf, firstByte, countOf, present, between, layoutOf, sizeOf, startOf, kindRight, offsetRight, countRight, lengthRight, contentsRight, recordByte, fieldAt, rangeOf, fieldRight, recordRight, sectionRight, rangesRight, steps, stepRight, orderRight, refusalBy}
+use Rattle.sections.specs.Layouts.{Layout, Table, station, source, orientation, marked, pass, places, withKind, ofKind, anyOfKind, layoutsIn, layoutIn, standsIn, rising, consecutive}
+use Rattle.sections.specs.File.{kindOf, firstByte, countOf, present, between, layoutOf, sizeOf, startOf, kindRight, offsetRight, countRight, lengthRight, contentsRight, recordByte, fieldAt, rangeOf, fieldRight, recordRight, sectionRight, rangesRight, steps, stepRight, orderRight, refusalBy, refusalOf}
 
 module _ (t u : Table) (s : List ℕ)
     (same : (p : ℕ) → p < 4 → layoutOf t s p ≡ layoutOf u s p) (stands : (p : ℕ) → p < 4 → standsIn t p (kindOf s p) ≡ standsIn u p (kindOf s p)) where
@@ -108,3 +108,12 @@ kind-more t p l s other =
     same-number (withKind t p l) t s
     (λ q h. in-more (λ (ls : List Layout). ofKind ls (kindOf s q)) l (λ ls. of-more ls l (kindOf s q) (other q h)) t p q)
     (λ q h. in-more (λ (ls : List Layout). anyOfKind ls (kindOf s q)) l (λ ls. any-more ls l (kindOf s q) (other q h)) t p q)
+
+-- ---- document 02, L4: the table as it was before kind 5, and that a file without that kind gets the number that it had
+
+abbrev pub placesBefore : Table
+placesBefore = (station ∷ []) ∷ (source ∷ []) ∷ (orientation ∷ []) ∷ (pass ∷ []) ∷ []
+
+pub as-before : (s : List ℕ) → ((q : ℕ) → q < 4 → kindOf s q ≡ 5 → ⊥) → refusalOf s ≡ refusalBy placesBefore s
+unfolding places withKind
+as-before s other = kind-more placesBefore 2 marked s other
