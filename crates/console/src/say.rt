@@ -30,7 +30,7 @@ fn say_line(others: &[u8], words: &[u8], k: usize) {
 }
 
 // Line k of the words for a kind, behind others: the name of its section, and then for each field its name and its unit; an empty line for none.
-// A further field is a further entry here.
+// A further field is a further entry here. Days have kind 3 or 5: of kind 3 nobody asks for the mark.
 fn say_word(others: &[u8], kind: i64, k: usize) {
     match kind {
         1 => say_line(
@@ -50,28 +50,7 @@ fn say_word(others: &[u8], kind: i64, k: usize) {
             declination\nticks\n",
             k,
         ),
-        3 => say_line(
-            others,
-            b"days\n\
-            MJD\n\n\
-            x\nmicroarcseconds\n\
-            y\nmicroarcseconds\n\
-            UT1-UTC\nns\n\
-            TAI-UTC\ns\n",
-            k,
-        ),
-        5 => say_line(
-            others,
-            b"days\n\
-            MJD\n\n\
-            x\nmicroarcseconds\n\
-            y\nmicroarcseconds\n\
-            UT1-UTC\nns\n\
-            TAI-UTC\ns\n\
-            mark\n\n",
-            k,
-        ),
-        _ => say_line(
+        4 => say_line(
             others,
             b"passes\n\
             station 1\n\n\
@@ -82,6 +61,17 @@ fn say_word(others: &[u8], kind: i64, k: usize) {
             step\nms\n\
             samples\n\n\
             tolerance\nps\n",
+            k,
+        ),
+        _ => say_line(
+            others,
+            b"days\n\
+            MJD\n\n\
+            x\nmicroarcseconds\n\
+            y\nmicroarcseconds\n\
+            UT1-UTC\nns\n\
+            TAI-UTC\ns\n\
+            mark\n\n",
             k,
         ),
     }
