@@ -80,7 +80,7 @@ def delaunay_arguments(tally):
 def delay_without_tide(values):
     stations = [(1, *values[0:3]), (2, *values[3:6])]
     source, day, ms = (1, *values[6:8]), values[8], values[9]
-    today, tomorrow = (day, *values[10:13], 37), (day + 1, *values[13:16], 37)
+    today, tomorrow = (day, *values[10:13], 37, 0), (day + 1, *values[13:16], 37, 0)
     orientation = delay.orientation_of(today, tomorrow, ms, lambda n: 0)
     return delay.delay_of(*stations, source, orientation)
 

@@ -6,8 +6,7 @@ from itertools import combinations, islice, product
 from typing import NamedTuple
 
 from lines import line, text
-from reference import bulletin, rowwords
-from reference.session import ORIENTATION
+from reference import bulletin, rowwords, session
 from reference.whole import within
 
 from . import bulletin as asked
@@ -121,7 +120,7 @@ def of_lacking(rows, first, count):
 def of_record(rows, record):
     """The first field of a record that is out of its range; nothing where none is."""
     days = [bulletin.day_of(row) for row in rows]
-    for field, (found, (low, high)) in enumerate(zip(record, ORIENTATION)):
+    for field, (found, (low, high)) in enumerate(zip(record, session.MARKED)):
         if not within(found, low, high):
             place = (days.index(record[0]) + 1, *COLUMNS[field][:2]) if field < len(COLUMNS) else ()
             return rowwords.of_field(record[0], field, found, low, high, place)
@@ -150,7 +149,7 @@ def reason(number, rows, first, count, tai):
 
 def printed(count, numbers):
     """The records, a line each."""
-    return text(line(numbers[5 * i:5 * i + 5]) for i in range(count))
+    return text(map(line, session.rows(numbers, bulletin.WIDTH)[:count]))
 
 
 def outcome(run):

@@ -3,7 +3,7 @@
 import os
 from decimal import Decimal
 
-from reference.earth import minutes, tide_at
+from reference.delay import ut1r_of
 
 HERE = os.path.dirname(os.path.abspath(__file__))
 FIRST_DAYS = (57_200, 57_750)
@@ -15,16 +15,16 @@ def scaled(text, unit):
 
 
 def published():
-    """Two rows of orientation records, in the units of a session file but with full UT1."""
+    """Two rows of orientation records: they hold full UT1, and are marked so."""
     with open(os.path.join(HERE, "leap-seconds.txt")) as lines:
         rows = [line.split() for line in lines if not line.startswith("#")]
-    days = [(int(day), scaled(x, 10**6), scaled(y, 10**6), scaled(ut1, 10**9), int(tai)) for day, x, y, ut1, tai in rows]
+    days = [(int(day), scaled(x, 10**6), scaled(y, 10**6), scaled(ut1, 10**9), int(tai), 1) for day, x, y, ut1, tai in rows]
     return [[day for day in days if first <= day[0] < first + 100] for first in FIRST_DAYS]
 
 
 def as_filed(days):
-    """The records that a session file holds: UT1R, without the tide at 0h of the day."""
-    return [(day, x, y, ut1 - tide_at(minutes(day, 0, tai)), tai) for day, x, y, ut1, tai in days]
+    """The records with UT1R, without the tide at 0h of the day: marked 0."""
+    return [(*day[:3], ut1r_of(day), day[4], 0) for day in days]
 
 
 def last_day_before(days):

@@ -33,10 +33,20 @@ def looks_like_text(file):
     return file != b"" and all(byte in TEXT_BYTES for byte in file[:32])
 
 
+def layout_in(file, place):
+    """Kind, ranges and counts of a place's records, by the kind that the contents table says of it."""
+    return session.layout_of(place, session.word(file, 8 + 24 * place))
+
+
+def place_of(kind):
+    """The place in which a kind may stand."""
+    return next(place for place in range(len(session.PLACES)) if session.layout_of(place, kind))
+
+
 def end_of(file, place):
     """Where a place's body ends, by the words of the contents table that stand for it."""
     first, count = session.word(file, 16 + 24 * place), session.word(file, 24 + 24 * place)
-    return first + 8 * len(session.SECTIONS[place][1]) * count
+    return first + 8 * len(layout_in(file, place)[1]) * count
 
 
 def of_word(file, word):
@@ -45,11 +55,10 @@ def of_word(file, word):
     if word == 0:
         return words.of_sections(found)
     place, which = divmod(word - 1, 3)
-    kind, _, least, greatest = session.SECTIONS[place]
     if which == 0:
-        return words.of_kind(place, found, [kind])
+        return words.of_kind(place, found, [kind for kind, _, _, _ in session.PLACES[place]])
     if which == 2:
-        return words.of_count(place, found, least, greatest)
+        return words.of_count(place, found, *layout_in(file, place)[2:])
     if place == 0:
         return words.of_first_byte(place, found, session.CONTENTS_BYTES, None)
     return words.of_first_byte(place, found, end_of(file, place - 1), session.word(file, 24 * place))
@@ -65,20 +74,20 @@ def of_contents(file, word):
 
 def byte_of(file, place, record, field):
     """The first byte of a field in the file."""
-    return session.word(file, 16 + 24 * place) + 8 * (len(session.SECTIONS[place][1]) * record + field)
+    return session.word(file, 16 + 24 * place) + 8 * (len(layout_in(file, place)[1]) * record + field)
 
 
 def of_field(file, kind, record, field):
-    place = kind - 1
-    row, (low, high) = session.sections_of(file)[place][record], session.SECTIONS[place][1][field]
+    place = place_of(kind)
+    row, (low, high) = session.sections_of(file)[place][record], layout_in(file, place)[1][field]
     byte = byte_of(file, place, record, field)
     return words.of_range(place, kind, record, field, row[0], row[field], low, high, byte)
 
 
 def of_order(file, number, kind, record):
     """Refusals 3 and 4: what the record before leaves for this one's first field."""
-    place = kind - 1
-    rows, greatest = session.sections_of(file)[place], session.SECTIONS[place][1][0][1]
+    place = place_of(kind)
+    rows, greatest = session.sections_of(file)[place], layout_in(file, place)[1][0][1]
     found, before = rows[record][0], rows[record - 1][0]
     least = before + 1
     allowed = () if least > greatest else (least, greatest) if number == 3 else (least,)

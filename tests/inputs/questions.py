@@ -95,11 +95,15 @@ def samples(q):
     return [line((number, count)), line(room)]
 
 
-def write(q):
+def lists_lent(q):
+    """The four lists that are lent to the writer."""
     numbers = numbers_lent(q.lent)
     ends = (0, q.a, q.a + q.b, q.a + q.b + q.c, len(numbers))
-    flats = [numbers[ends[i]:ends[i + 1]] for i in range(4)]
-    number, count, room = session.write(flats, bytes([FILLED_BYTE]) * q.room)
+    return [numbers[ends[i]:ends[i + 1]] for i in range(4)]
+
+
+def write(q):
+    number, count, room = session.write(q.d, lists_lent(q), bytes([FILLED_BYTE]) * q.room)
     return [line((number, count)), room.hex()]
 
 

@@ -6,7 +6,7 @@ A row is a published one with other decimals in its columns, and of another leng
 from typing import NamedTuple
 
 from reference import bulletin
-from reference.session import ORIENTATION
+from reference.session import MARKED
 
 from . import finals
 
@@ -15,7 +15,7 @@ FIELDS = {"MJD": bulletin.MJD, **dict(zip(("x", "y", "UT1-UTC"), (place[:3] for 
 VALUES = tuple(FIELDS)[1:]
 # The least and the greatest value of x, y and UT1-UTC, in units of the last digit.
 ENDS = {"x": 1_000_000, "y": 1_000_000, "UT1-UTC": 9_000_000}
-FIRST_DAY, LAST_DAY = ORIENTATION[0]
+FIRST_DAY, LAST_DAY = MARKED[0]
 ROW_BYTES = bulletin.ROW_COLUMNS + 1
 # Up to the last column that is read, as the readme says, and as they were published.
 LENGTHS = (68, 69, 185, 185, 187, 187)
@@ -125,8 +125,9 @@ def some_value(numbers, low, high, unit):
 
 
 def some_record(numbers, day):
+    """A record that a row can hold."""
     units = (1, 1, 100, 1)
-    return (day, *(some_value(numbers, *ends, unit) for ends, unit in zip(ORIENTATION[1:], units)))
+    return (day, *(some_value(numbers, *ends, unit) for ends, unit in zip(MARKED[1:5], units)), bulletin.FULL_UT1)
 
 
 def some_records(numbers, count, consecutive):

@@ -1,19 +1,20 @@
-"""Rows of the IERS file finals2000A: document 02, L3. They are read as orientation records, and written from them.
+"""Rows of the IERS file finals2000A: document 02, L3 and L4. They are read as orientation records, and written from them.
 
-A text, a row and a room are bytes. A record has five numbers: MJD, x, y, UT1-UTC, TAI-UTC.
+A text, a row and a room are bytes. A record has six numbers: MJD, x, y, UT1-UTC, TAI-UTC, mark. Rows hold full UT1: the mark is 1.
 """
 
 import re
 
 from . import session
-from .session import ORIENTATION
+from .session import MARKED
 from .whole import within
 
 LONGEST_TEXT = 65_536
 ROW_COLUMNS = 185
-MOST_NUMBERS = 320
-DAY_RANGE = ORIENTATION[0]
-WIDTH, (FEWEST, MOST) = len(ORIENTATION), session.SECTIONS[2][2:]
+DAY_RANGE = MARKED[0]
+WIDTH, (FEWEST, MOST) = len(MARKED), session.layout_of(2, 5)[2:]
+MOST_NUMBERS = WIDTH * MOST
+FULL_UT1 = 1
 
 # First and last column, counted from 1, and digits behind the point; of x, y and UT1-UTC also how many units of a record
 # the last digit is worth. Of a day it is a hundredth.
@@ -77,12 +78,12 @@ def wrong_request(first, count, tai):
 
 
 def out_of_range(record):
-    return any(not within(value, low, high) for value, (low, high) in zip(record, ORIENTATION))
+    return any(not within(value, low, high) for value, (low, high) in zip(record, MARKED))
 
 
 def records_of(taken, tai):
     """The records of the days from the first on, each with its TAI-UTC."""
-    return [(day, *values_of(taken[day]), seconds) for day, seconds in zip(sorted(taken), tai)]
+    return [(day, *values_of(taken[day]), seconds, FULL_UT1) for day, seconds in zip(sorted(taken), tai)]
 
 
 def refusal(text, first, count, tai):
@@ -99,7 +100,7 @@ def refusal(text, first, count, tai):
 
 
 def days_from_rows(text, first, count, tai):
-    """Refusal and 320 numbers: the records of the days asked for, zeros behind the last."""
+    """Refusal and 384 numbers: the records of the days asked for, zeros behind the last."""
     number = refusal(text, first, count, tai)
     records = [] if number else records_of(taken_rows(rows_of(text), first, count), tai)
     numbers = [number for record in records for number in record]
@@ -126,11 +127,16 @@ def row_of(record):
     return row
 
 
+def unheld(record):
+    """Whether a row cannot hold a record: it has full UT1 in whole hundreds of nanoseconds."""
+    return out_of_range(record) or record[3] % 100 or record[5] != FULL_UT1
+
+
 def unwritable(days):
     """Whether a list of numbers is no list of records that rows can hold: 2."""
     if len(days) % WIDTH or not within(len(days) // WIDTH, FEWEST, MOST):
         return True
-    return any(out_of_range(record) or record[3] % 100 for record in session.rows(days, WIDTH))
+    return any(map(unheld, session.rows(days, WIDTH)))
 
 
 def text_of(days):

@@ -1,4 +1,4 @@
-"""Day values, orientation, delays and samples: document 01, 'Day values', 'Delay' and refusals 1 to 7, and document 02, L1.
+"""Day values, orientation, delays and samples: document 01, 'Day values', 'Delay' and refusals 1 to 7; document 02, L1 and L4.
 
 A function that ends in `_of` works on records that are at hand; the others are the calls over a session file. Each call hands back
 its refusal first; refused, the rest are zeros.
@@ -21,16 +21,23 @@ def leap_of(today, tomorrow):
     return (tomorrow[4] - today[4]) * 1_000_000_000
 
 
-def day_values_of(today, tomorrow, ms):
+def ut1r_of(record, tide_used=earth.tide_at):
+    """UT1R-UTC of a record. One marked 1 holds full UT1: its tide at 0h of its own day is taken away, document 02, L4."""
+    day, _, _, ut1, tai, mark = record
+    return ut1 - tide_used(earth.minutes(day, 0, tai)) if mark == 1 else ut1
+
+
+def day_values_of(today, tomorrow, ms, tide_used=earth.tide_at):
     """x, y and UT1R-UTC at a millisecond of the day of the record `today`."""
     x, y = (line(today[i], tomorrow[i], ms) for i in (1, 2))
-    return (x, y, line(today[3], tomorrow[3] - leap_of(today, tomorrow), ms))
+    ends = ut1r_of(today, tide_used), ut1r_of(tomorrow, tide_used) - leap_of(today, tomorrow)
+    return (x, y, line(*ends, ms))
 
 
 def orientation_of(today, tomorrow, ms, tide_used=earth.tide_at):
     """x, y, UT1-UTC used, and ERA in ticks."""
     day, tai = today[0], today[4]
-    x, y, ut1r = day_values_of(today, tomorrow, ms)
+    x, y, ut1r = day_values_of(today, tomorrow, ms, tide_used)
     ut1 = ut1r + tide_used(earth.minutes(day, ms, tai))
     return (x, y, ut1, earth.angle_tick(earth.angle_e(day, earth.microseconds(ms, ut1))))
 

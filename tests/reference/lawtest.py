@@ -254,12 +254,12 @@ def wrong_rows(records, room):
     number, written, after = bulletin.rows_from_days(days, room)
     rows = bulletin.rows_of(after[:written])
     beside = {bytes(byte for column, byte in enumerate(row, 1) if column not in READ) for row in rows}
-    again = bulletin.days_from_rows(after[:written], days[0], len(records), days[4::5])
+    again = bulletin.days_from_rows(after[:written], days[0], len(records), days[4::6])
     yield "" if (number, written) == ((0, need) if need <= len(room) else (7, 0)) else "refused with %d" % number
     yield "" if after[written:] == room[written:] else "behind the rows the room is touched"
     yield "" if number or [len(row) for row in rows] == [185] * len(records) else "it is not in rows of 185 columns"
     yield "" if beside <= {b" " * 149} else "columns beside the decimals are not blank"
-    yield "" if number or again == (0, *days, *[0] * (320 - len(days))) else "it does not read back"
+    yield "" if number or again == (0, *days, *[0] * (384 - len(days))) else "it does not read back"
 
 
 def rows_written(tally, random):

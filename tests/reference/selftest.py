@@ -47,20 +47,24 @@ def tracks(tally):
     tally.equal("prediction", track.predict([0, 3, 65_536, -32_768], 1), (0, 1))
 
 
-def small_session(samples=3, tolerance=0):
+def small_session(samples=3, tolerance=0, day_kind=3):
     """One station, one source, two days, one pass of that station with itself."""
-    return session.encode((
+    lists = (
         [(1, 4_075_539_757, 931_735_390, 4_801_629_449)],
         [(1, 0, 0)],
-        [(51_544, 0, 0, 0, 32), (51_545, 0, 0, 0, 32)],
+        [(51_544, 0, 0, 0, 32, 0), (51_545, 0, 0, 0, 32, 0)],
         [(1, 1, 1, 51_544, 0, 1_000, samples, tolerance)],
-    ))
+    )
+    return session.encode(lists, day_kind)
 
 
 def the_program(tally):
     file = small_session()
-    tally.equal("length of the small session", len(file), 304)
-    tally.equal("tracks of the small session", program.lines(file), ["pass 0 1", "0 3 0 0"])
+    for kind, length in ((3, 304), (5, 320)):
+        same = small_session(day_kind=kind)
+        tally.equal("length of the small session, days of kind %d" % kind, len(same), length)
+        tally.equal("counts of the small session, days of kind %d" % kind, session.check(same), (0, 1, 1, 2, 1, kind))
+        tally.equal("tracks of the small session, days of kind %d" % kind, program.lines(same), ["pass 0 1", "0 3 0 0"])
     tally.equal("tracks of nothing", program.lines(b""), ["refused 1"])
     tally.equal("tracks of over-long input", program.lines(file + bytes(65_536)), ["refused 1"])
     tally.equal("samples of the small session", delay.samples(file, 0, [5] * 4), (0, 3, [0, 0, 0, 5]))
@@ -74,13 +78,13 @@ def rows(tally):
         b"16 2 2 57360.00 I -0.004706 0.000030  0.301252 0.000024  I 0.0249911 0.0000057  1.2412 0.0034  I    -0.108",
         b"16 728 57537.00 P  0.211431 0.008135  0.445716 0.011520  P-0.2231750 0.0085261",
     ))
-    two = (57_359, -3_225, 299_494, 26_286_400, 36, 57_360, -4_706, 301_252, 24_991_100, 36)
-    tally.equal("two published days", bulletin.days_from_rows(text, 57_359, 2, [36, 36]), (0, *two, *[0] * 310))
-    tally.equal("a day that is not there", bulletin.days_from_rows(text, 57_360, 2, [36, 36]), (11, *[0] * 320))
+    two = (57_359, -3_225, 299_494, 26_286_400, 36, 1, 57_360, -4_706, 301_252, 24_991_100, 36, 1)
+    tally.equal("two published days", bulletin.days_from_rows(text, 57_359, 2, [36, 36]), (0, *two, *[0] * 372))
+    tally.equal("a day that is not there", bulletin.days_from_rows(text, 57_360, 2, [36, 36]), (11, *[0] * 384))
     predicted = bulletin.values_of(bulletin.rows_of(text)[2])
     tally.equal("a published prediction", predicted, [211_431, 445_716, -223_175_000])
     row = b"       57359.00   -0.003225           0.299494             0.0262864" + b" " * 117
-    tally.equal("a row that is written", bulletin.row_of(two[:5]), row)
+    tally.equal("a row that is written", bulletin.row_of(two[:6]), row)
 
 
 def run(tally):

@@ -1,7 +1,9 @@
-"""The session file: document 01, 'Session file' and 'Refusal numbers' 1 to 5 and 7.
+"""The session file: document 01, 'Session file' and 'Refusal numbers' 1 to 5 and 7, and document 02, L4.
 
 A file is a bytes object, a record a tuple of whole numbers. Whether a word of the contents table is right depends on
-the words before it alone: the place where a body starts follows from the counts of the bodies before it.
+the words before it alone: the place where a body starts follows from the kinds and counts of the bodies before it.
+
+An orientation record at hand has six numbers, the mark last. One of kind 3 has five in the file, and the mark 0.
 """
 
 import struct
@@ -20,15 +22,28 @@ POLE = (-1_000_000, 1_000_000)
 STATION = (ID, LENGTH, LENGTH, LENGTH)
 SOURCE = (ID, (0, 2**32 - 1), (-(2**30), 2**30))
 ORIENTATION = (DAY, POLE, POLE, (-900_000_000, 900_000_000), (0, 99))
+MARKED = (*ORIENTATION, (0, 1))
 PASS = (ID, ID, ID, DAY, (0, DAY_MS - 1), (1, 3_600_000), (1, 4_096), (0, 1_000_000))
 
-# kind, the range of each field, least and greatest count
-SECTIONS = (
-    (1, STATION, 1, 64),
-    (2, SOURCE, 1, 256),
-    (3, ORIENTATION, 2, 64),
-    (4, PASS, 1, 64),
+# For each place the kinds that may stand there: kind, the range of each field, least and greatest count.
+PLACES = (
+    ((1, STATION, 1, 64),),
+    ((2, SOURCE, 1, 256),),
+    ((3, ORIENTATION, 2, 64), (5, MARKED, 2, 64)),
+    ((4, PASS, 1, 64),),
 )
+# How many numbers a record of each place has that is at hand.
+WIDTHS = (4, 3, 6, 8)
+
+
+def layout_of(place, kind):
+    """What PLACES says of a kind in a place; none where it may not stand there."""
+    return next((layout for layout in PLACES[place] if layout[0] == kind), None)
+
+
+def layouts_with(day_kind):
+    """The layout of each place where the days are of this kind; none for a kind that they cannot have."""
+    return [layout_of(place, kind) for place, kind in enumerate((1, 2, day_kind, 4))]
 
 
 def word(file, at):
@@ -47,13 +62,15 @@ def fault_of_contents(file):
     A word that is not wholly in the file is wrong.
     """
     words = contents_table(file)
-    if words[0] != len(SECTIONS):
+    if words[0] != len(PLACES):
         return 0
     body = CONTENTS_BYTES
-    for place, (kind, fields, least, greatest) in enumerate(SECTIONS):
+    for place in range(len(PLACES)):
         at = 1 + 3 * place
-        if words[at] != kind:
+        layout = layout_of(place, words[at])
+        if layout is None:
             return at
+        _, fields, least, greatest = layout
         if words[at + 1] != body:
             return at + 1
         if words[at + 2] is None or not within(words[at + 2], least, greatest):
@@ -62,19 +79,25 @@ def fault_of_contents(file):
     return None if len(file) == body and len(file) <= LONGEST_FILE else 13
 
 
+def layouts_of(file):
+    """The layout of each place of a file whose contents table is right."""
+    return [layout_of(place, word(file, 8 + 24 * place)) for place in range(len(PLACES))]
+
+
 def sections_of(file):
     """The four lists of records of a file whose contents table and length are right."""
     lists = []
-    for place, (_, fields, _, _) in enumerate(SECTIONS):
+    for place, (_, fields, _, _) in enumerate(layouts_of(file)):
         first, count = word(file, 16 + 24 * place), word(file, 24 + 24 * place)
-        size = 8 * len(fields)
-        lists.append([struct.unpack_from("<%dq" % len(fields), file, first + i * size) for i in range(count)])
+        size, zeros = 8 * len(fields), (0,) * (WIDTHS[place] - len(fields))
+        found = (struct.unpack_from("<%dq" % len(fields), file, first + i * size) for i in range(count))
+        lists.append([record + zeros for record in found])
     return lists
 
 
-def fault_of_fields(lists):
+def fault_of_fields(layouts, lists):
     """Kind, record and field of the first number outside its range."""
-    for (kind, fields, _, _), records in zip(SECTIONS, lists):
+    for (kind, fields, _, _), records in zip(layouts, lists):
         for i, record in enumerate(records):
             for j, (value, (low, high)) in enumerate(zip(record, fields)):
                 if not within(value, low, high):
@@ -82,35 +105,37 @@ def fault_of_fields(lists):
     return None
 
 
-def fault_of_ids(lists):
-    """Kind, record and field of the first id, in sections 1 and 2, that is not above the one before."""
-    for kind, records in ((1, lists[0]), (2, lists[1])):
+def fault_of_ids(layouts, lists):
+    """Kind, record and field of the first id, of stations and sources, that is not above the one before."""
+    for (kind, _, _, _), records in list(zip(layouts, lists))[:2]:
         for i in range(1, len(records)):
             if not records[i][0] > records[i - 1][0]:
                 return (kind, i, 0)
     return None
 
 
-def fault_of_days(lists):
+def fault_of_days(layouts, lists):
     """Kind, record and field of the first orientation day that does not follow the one before."""
-    days = lists[2]
+    (kind, _, _, _), days = layouts[2], lists[2]
     for i in range(1, len(days)):
         if days[i][0] != days[i - 1][0] + 1:
-            return (3, i, 0)
+            return (kind, i, 0)
     return None
+
+
+def fault_of_records(layouts, lists):
+    """Number, kind, record and field of the first of 2, 3 and 4 that applies; zeros where none does."""
+    for number, find in ((2, fault_of_fields), (3, fault_of_ids), (4, fault_of_days)):
+        place = find(layouts, lists)
+        if place is not None:
+            return (number, *place)
+    return (0, 0, 0, 0)
 
 
 def fault(file):
     """Number, section, record, field: the first place at which the number that check gives arises."""
     contents = fault_of_contents(file)
-    if contents is not None:
-        return (1, 0, 0, contents)
-    lists = sections_of(file)
-    for number, find in ((2, fault_of_fields), (3, fault_of_ids), (4, fault_of_days)):
-        place = find(lists)
-        if place is not None:
-            return (number, *place)
-    return (0, 0, 0, 0)
+    return fault_of_records(layouts_of(file), sections_of(file)) if contents is None else (1, 0, 0, contents)
 
 
 def refusal(file):
@@ -118,51 +143,70 @@ def refusal(file):
 
 
 def check(file):
-    """Refusal and the four counts."""
+    """Refusal, the four counts, and the kind of the days."""
     number = refusal(file)
     if number:
-        return (number, 0, 0, 0, 0)
-    return (0, *(len(records) for records in sections_of(file)))
+        return (number, 0, 0, 0, 0, 0)
+    return (0, *(len(records) for records in sections_of(file)), layouts_of(file)[2][0])
 
 
 def record_at(file, place, index):
     """Refusal and the record of a place, 0 to 3: what station_at, source_at, day_at and pass_at hand out."""
-    width = len(SECTIONS[place][1])
     number = refusal(file)
-    if number == 0 and index >= len(sections_of(file)[place]):
-        number = 5
-    if number:
-        return (number,) + (0,) * width
-    return (0, *sections_of(file)[place][index])
+    records = [] if number else sections_of(file)[place]
+    if index < len(records):
+        return (0, *records[index])
+    return (number or 5,) + (0,) * WIDTHS[place]
 
 
-def encode(lists):
-    """The bytes of four lists of records, whatever the records hold."""
+def encode(lists, day_kind=3):
+    """The bytes of four lists of records, whatever the records hold; of each so many numbers as its kind has."""
     body = CONTENTS_BYTES
-    words = [len(SECTIONS)]
-    for (kind, fields, _, _), records in zip(SECTIONS, lists):
+    words, numbers = [len(PLACES)], []
+    for (kind, fields, _, _), records in zip(layouts_with(day_kind), lists):
         words += [kind, body, len(records)]
         body += len(records) * 8 * len(fields)
-    for records in lists:
-        for record in records:
-            words += record
-    return struct.pack("<%dq" % len(words), *words)
+        numbers += [number for record in records for number in record[:len(fields)]]
+    return struct.pack("<%dq" % len(words + numbers), *words, *numbers)
 
 
 def rows(numbers, width):
     return [tuple(numbers[i:i + width]) for i in range(0, len(numbers), width)]
 
 
-def write(flats, room):
+def records_of(flats):
+    """Four lists of numbers as lists of records."""
+    return [rows(flat, width) for flat, width in zip(flats, WIDTHS)]
+
+
+def miscounted(layout, flat, width):
+    """Whether a list of numbers is no right count of whole records."""
+    _, _, least, greatest = layout
+    return len(flat) % width != 0 or not within(len(flat) // width, least, greatest)
+
+
+def unheld(layout, records):
+    """Whether a record has a number other than 0 behind those that its kind holds: a mark in kind 3."""
+    return any(any(record[len(layout[1]):]) for record in records)
+
+
+def refusal_of_lists(day_kind, flats):
+    """The number of four lists that are to be written, without regard to room: a list of no kind is not counted."""
+    layouts = layouts_with(day_kind)
+    if any(layout and miscounted(layout, flat, width) for layout, flat, width in zip(layouts, flats, WIDTHS)):
+        return 1
+    if None in layouts:
+        return 2
+    lists = records_of(flats)
+    return 2 if any(map(unheld, layouts, lists)) else fault_of_records(layouts, lists)[0]
+
+
+def write(day_kind, flats, room):
     """Refusal, bytes written, and the room afterwards; flats are four lists of numbers, record after record."""
-    for (_, fields, least, greatest), flat in zip(SECTIONS, flats):
-        if len(flat) % len(fields) or not within(len(flat) // len(fields), least, greatest):
-            return (1, 0, room)
-    lists = [rows(flat, len(fields)) for (_, fields, _, _), flat in zip(SECTIONS, flats)]
-    for number, find in ((2, fault_of_fields), (3, fault_of_ids), (4, fault_of_days)):
-        if find(lists) is not None:
-            return (number, 0, room)
-    file = encode(lists)
+    number = refusal_of_lists(day_kind, flats)
+    if number:
+        return (number, 0, room)
+    file = encode(records_of(flats), day_kind)
     if len(file) > len(room):
         return (7, 0, room)
     return (0, len(file), file + room[len(file):])

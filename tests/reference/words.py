@@ -8,14 +8,14 @@ SECTIONS = ("stations", "sources", "days", "passes")
 FIELDS = (
     ("id", "X", "Y", "Z"),
     ("id", "right ascension", "declination"),
-    ("MJD", "x", "y", "UT1-UTC", "TAI-UTC"),
+    ("MJD", "x", "y", "UT1-UTC", "TAI-UTC", "mark"),
     ("station 1", "station 2", "source", "MJD", "u", "step", "samples", "tolerance"),
 )
 
 UNITS = (
     ("", "mm", "mm", "mm"),
     ("", "ticks", "ticks"),
-    ("", "microarcseconds", "microarcseconds", "ns", "s"),
+    ("", "microarcseconds", "microarcseconds", "ns", "s", ""),
     ("", "", "", "", "ms", "ms", "", "ps"),
 )
 
