@@ -2,7 +2,8 @@
 
 from reference import session
 
-from .damaged import with_word
+from .damaged import DAY_KIND, NO_DAY_KINDS, with_word
+from .sound import file_of, marked
 
 STATION, SOURCE, PASS = (1, 0, 0, 0), (1, 0, 0), (1, 1, 1, 51_544, 0, 1_000, 3, 0)
 DAYS = [(51_544, 0, 0, 0, 32), (51_545, 0, 0, 0, 32)]
@@ -14,12 +15,13 @@ THREE_DAYS = [(60_000 + i, 100_000 + 1_000 * i, 400_000 + 1_000 * i, -20_000_000
 OVER_MIDNIGHT = (10, 20, 1, 60_000, 86_399_000, 1_000, 5, 100)
 
 
-def fullest():
+def fullest(marks):
     """As many records of each kind as a file can hold, with fields at the ends of their ranges."""
-    return session.encode((
+    days = [(69_743 + i, 1_000_000, -1_000_000, 900_000_000 - i, 99) for i in range(64)]
+    return file_of((
         [(i + 1, -6_400_000_000 + i, 6_400_000_000 - i, i) for i in range(64)],
         [(2 * i + 1, 16_777_216 * i, 2**30 - 8_388_608 * i) for i in range(256)],
-        [(69_743 + i, 1_000_000, -1_000_000, 900_000_000 - i, 99) for i in range(64)],
+        marked(days, marks) if marks else days,
         [(1, 64, 511, 69_743, 86_399_999 - i, 3_600_000, 4_096, 1_000_000) for i in range(64)],
     ))
 
@@ -43,8 +45,38 @@ def smallest():
     return [small, *lengths, *wrong, same_ids, with_word(same_ids, 14, 2**63 - 1), gap, falling_ids]
 
 
+def small_marked(*marks, days=DAYS):
+    return file_of(([STATION], [SOURCE], marked(days, marks), [PASS]))
+
+
+def smallest_marked():
+    """The smallest file of kind 5 with each two marks, with marks that are none, and with a day left out."""
+    none = (2, -1, -2, 2**32, 2**32 + 1, 2**63 - 1, -(2**63))
+    sound = [small_marked(one, two) for one in (0, 1) for two in (0, 1)]
+    wrong = [small_marked(*marks) for mark in none for marks in ((mark, 1), (0, mark))]
+    return [*sound, *wrong, small_marked(1, 1, days=GAP), small_marked(1, 2, days=GAP)]
+
+
+def said_to_have(file, kind, count):
+    """A file whose contents table has another kind and count of days."""
+    return with_word(with_word(file, DAY_KIND, kind), DAY_KIND + 2, count)
+
+
+def kinds_of_days():
+    """Files with another kind of days said, and as long as of another kind; six days of kind 3 have the bytes of five of kind 5."""
+    plain, small = file_of(([STATION], [SOURCE], DAYS, [PASS])), small_marked(1)
+    days = [(51_544 + i, 0, 0, 0, 32) for i in range(6)]
+    six, five = file_of(([STATION], [SOURCE], days, [PASS])), small_marked(1, days=days[:5])
+    return [
+        *(said_to_have(plain, kind, 2) for kind in (5, *NO_DAY_KINDS)),
+        *(said_to_have(small, kind, 2) for kind in (3, 4, 6)),
+        *(small[:-16], plain + bytes(16), small[:-1], small + bytes(8)),
+        *(said_to_have(six, 5, 5), said_to_have(five, 3, 6)),
+    ]
+
+
 def two_stations(stations=(WETTZELL, ONSALA), days=THREE_DAYS, passes=(OVER_MIDNIGHT,)):
-    return session.encode((stations, SOURCES, days, passes))
+    return file_of((stations, SOURCES, days, passes))
 
 
 def of_two_stations():
@@ -57,15 +89,19 @@ def of_two_stations():
     ]
 
 
-def passes_refused_and_not():
+def passes_refused_and_not(days=THREE_DAYS):
     """Five passes: over midnight; of a station that is not there; exact; past the last day; of three segments."""
-    return two_stations(passes=[
+    return two_stations(days=days, passes=[
         OVER_MIDNIGHT,
         (10, 30, 1, 60_000, 0, 1_000, 3, 0),
         (20, 10, 2, 60_001, 43_200_000, 250, 4, 0),
         (20, 10, 2, 60_001, 86_399_999, 1, 2, 0),
         (10, 20, 1, 60_000, 0, 60_000, 40, 1_000_000),
     ])
+
+
+def marked_passes(*marks):
+    return passes_refused_and_not(marked(THREE_DAYS, marks))
 
 
 def one_station_twice():
@@ -75,20 +111,28 @@ def one_station_twice():
 
 def files():
     over_long = one_station_twice().ljust(65_537, bytes(1))
-    sound = [fullest(), zeros(), one_station_twice(), passes_refused_and_not()]
-    return [*smallest(), *sound, *of_two_stations(), over_long, bytes([7]) * 303]
+    sound = [fullest(()), zeros(), one_station_twice(), passes_refused_and_not()]
+    marked_ones = [fullest((1,)), *(marked_passes(*marks) for marks in ((0,), (1,), (0, 1), (1, 0)))]
+    of_days = [*smallest_marked(), *kinds_of_days(), *marked_ones]
+    return [*smallest(), *sound, *of_two_stations(), over_long, bytes([7]) * 303, *of_days]
 
 
 def lists_to_write():
-    """The smallest file in a room that is enough and in one a byte short; then lists that are refused, each by one
-    number more.
+    """The smallest file of each kind in a room that is enough and in one a byte short; then lists that are refused, each by
+    one number more: kind of the days, lists, room.
     """
+    days, gap, fives = marked(DAYS, (0,)), marked(GAP, (0,)), DAYS * 3
+    ones, twos = marked(DAYS, (0, 1)), marked(GAP, (0, 2))
     written = [
-        ([STATION], DAYS, 304),
-        ([STATION], DAYS, 303),
-        ([STATION, (2,)], GAP, 303),
-        ([(1, 0, 0, 6_400_000_001)], GAP, 303),
-        ([STATION, STATION], GAP, 303),
-        ([STATION], GAP, 303),
+        *((kind, [STATION], days, room) for kind, length in ((3, 304), (5, 320)) for room in (length, length - 1)),
+        *((5, [STATION], ones, room) for room in (320, 319)),
+        (3, [STATION, (2,)], gap, 303),
+        (3, [(1, 0, 0, 6_400_000_001)], gap, 303),
+        (3, [STATION, STATION], gap, 303),
+        (3, [STATION], gap, 303),
+        (5, [STATION, (2,)], twos, 319),
+        (4, [STATION, (2,)], twos, 319),
+        *((kind, [STATION, STATION], twos, 319) for kind in (5, 4, 3)),
+        *((kind, [STATION], some, 320) for kind in (3, 5, 0, 4, 6, -3, -5, 2**32 + 5) for some in (ones, gap, days[:1], DAYS, fives, [])),
     ]
-    return [((stations, [SOURCE], days, [PASS]), room) for stations, days, room in written]
+    return [(kind, (stations, [SOURCE], listed, [PASS]), room) for kind, stations, listed, room in written]

@@ -7,9 +7,15 @@ from itertools import combinations, permutations, product
 import programs
 from reference import rowwords, session
 
-from . import earth, features, rowtraps, sharing, short
-from .questions import DAYS_FROM_ROWS
+from . import earth, features, marktraps, rowtraps, sharing, short
+from .questions import DAYS_FROM_ROWS, ORIENTATION, answered
 from .rows import FIELDS, VALUES
+
+# What becomes of a marked record's UT1-UTC, or would by another TAI-UTC.
+MOVED = (
+    *("UT1R above 900,000,000", "UT1R below -900,000,000"),
+    *("tide moved by TAI-UTC of the next day", "tide moved by TAI-UTC of the day before"),
+)
 
 LEAST = {
     "files": 500,
@@ -26,9 +32,31 @@ LEAST = {
     "differing TAI-UTC": 20,
     **{"TAI-UTC %s by %s" % step: 10 for step in product(("rises", "falls"), ("the next day", "99"))},
     "pass on the file's last day": 10,
+    "file: days of kind 3": 200,
+    "file: days of kind 5": 100,
+    **{"file: marks %s" % marks: 10 for marks in ("0 alone", "1 alone", "0 and 1", "0, 0", "0, 1", "1, 0", "1, 1")},
+    **{"file: " + trap: 10 for trap in ("another kind of days", "a mark that is none")},
+    **{"file: days of kind %d said to be of kind %d" % kinds: 10 for kinds in ((3, 5), (5, 3))},
+    **{"file: kind %d in as many bytes as kind %d" % kinds: 10 for kinds in ((3, 5), (5, 3))},
+    "file: pass over midnight with marks": 20,
+    "file: pass over a midnight at which the mark changes": 10,
+    **{"file: " + trap: 10 for trap in MOVED},
 }
 
-# Of each of these in the questions on all passes together there are 10.
+# Of each of these in the questions on orientation from files of kind 5 there are 10.
+MARKS = (*("marks %d, %d" % marks for marks in product((0, 1), repeat=2)), *MOVED)
+
+# And of each of these in the questions on the writer.
+WRITTEN = (
+    *("kind %d written with %d" % case for case in product((3, 5), (0, 1, 2, 3, 4, 7))),
+    *("another kind written with %d" % number for number in (1, 2)),
+    *("%s before %s" % pair for pair in marktraps.PAIRS),
+    *("%s for kind %d" % case for case in product(("a mark that is none", "five numbers a record"), (3, 5))),
+    *("a mark 1 for kind 3", "marks 0 and 1 for kind 5", "a room of 15,464"),
+    "another kind with a day list that is not judged",
+)
+
+# And of each of these in the questions on all passes together.
 TOGETHER = (
     *("%s answered" % passes for passes in ("one pass", "two passes", "several passes", "64 passes")),
     *("file refused with %d" % number for number in (1, 2, 3, 4)),
@@ -67,8 +95,9 @@ ROWS_READ = (
 ROWS_WRITTEN = (
     *("written with %d" % number for number in (0, 2, 7)),
     *("2 before 7", "no whole record at the end", "days that follow", "days that do not follow"),
+    *("marks 0 and 1", "marks 0 alone", "five numbers a record"),
     *("no record", "one record", "two records", "64 records", "65 records"),
-    *("%s in field %d" % case for case in product(("low", "high", "too low", "too high"), range(5))),
+    *("%s in field %d" % case for case in product(("low", "high", "too low", "too high"), range(6))),
     *("UT1-UTC in parts of 100", "negative UT1-UTC in parts of 100"),
     *("no room", "a row short", "a byte short", "just enough room", "room left"),
 )
@@ -90,8 +119,9 @@ def places_of_faults(tally):
     faults = (session.fault(file) for file, _ in programs.sessions())
     found = {(number, kind, field) for number, kind, _, field in faults}
     contents = {(1, 0, field) for field in range(14)}
-    fields = {(2, kind, field) for kind, ranges, _, _ in session.SECTIONS for field in range(len(ranges))}
-    missing = (contents | fields | {(3, 1, 0), (3, 2, 0), (4, 3, 0)}) - found
+    layouts = [layout for kinds in session.PLACES for layout in kinds]
+    fields = {(2, kind, field) for kind, ranges, _, _ in layouts for field in range(len(ranges))}
+    missing = (contents | fields | {(3, 1, 0), (3, 2, 0), (4, 3, 0), (4, 5, 0)}) - found
     tally.check("enough: a fault at each place", not missing, "none at %s" % sorted(missing))
 
 
@@ -108,6 +138,14 @@ def questions_of_earth(tally):
     }
     least = {"questions": 10_000, "f negative": 100, "f past a day": 100, "days before 51,544": len(days)}
     tally.nothing_wrong("enough questions of earth", too_few(counts, least))
+
+
+def marks_and_kinds(tally):
+    asked = [question for question, _ in programs.questions("delay") if question.what == ORIENTATION]
+    written = [question for question, _ in programs.questions("write") if answered(question)]
+    counts = Counter(trap for question in asked for trap in marktraps.of_epoch(question))
+    counts.update(trap for question in written for trap in marktraps.of_lists(question))
+    tally.nothing_wrong("enough of marks and kinds", too_few(counts, dict.fromkeys((*MARKS, *WRITTEN), 10)))
 
 
 def passes_together(tally):
@@ -148,6 +186,7 @@ def run(tally):
     session_files(tally)
     places_of_faults(tally)
     questions_of_earth(tally)
+    marks_and_kinds(tally)
     passes_together(tally)
     rows_read_and_written(tally)
     runs_of_days(tally)

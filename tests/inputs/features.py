@@ -1,9 +1,11 @@
-"""What a heap of session files holds: how often each refusal and each trap of document 01 occurs."""
+"""What a heap of session files holds: how often each refusal and each trap of documents 01 and 02 occurs."""
 
 from collections import Counter
 
 from reference import delay, session
 from reference.earth import DAY_MS
+
+from . import marktraps
 
 
 def traps_of_file(lists):
@@ -49,6 +51,7 @@ def count(files):
     for file in files:
         number = session.refusal(file)
         counts["file refused with %d" % number if number else "file accepted"] += 1
+        counts.update("file: %s" % trap for trap in marktraps.of_file(file))
         if number == 0:
             lists = session.sections_of(file)
             found = [traps_of_file(lists)] + [traps_of_pass(lists, planned) for planned in lists[3]]

@@ -10,12 +10,10 @@ import random
 import sys
 from functools import cache
 
-from reference.session import encode
-
 from . import chosen, damaged, features, sound
 
 SEED = 41_317
-SOUND, DAMAGED_OF_EACH_KIND = 330, 45
+SOUND, DAMAGED_OF_EACH_KIND = 330, 30
 
 
 @cache
@@ -25,7 +23,7 @@ def files(seed=SEED, sound_count=SOUND, each=DAMAGED_OF_EACH_KIND):
     sessions = [full, *sound.sessions(numbers, sound_count)]
     few = [session for session in sessions if len(session[3]) < 13]
     small = [session for session in few if max(planned[6] for planned in session[3]) < 100]
-    return [*map(encode, sessions), *damaged.files(numbers, full, small, each), *chosen.files()]
+    return [*map(sound.file_of, sessions), *damaged.files(numbers, full, small, each), *chosen.files()]
 
 
 def main():

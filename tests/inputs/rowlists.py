@@ -2,7 +2,8 @@
 
 from itertools import product
 
-from reference.session import ORIENTATION
+from reference.bulletin import WIDTH
+from reference.session import MARKED
 
 from .questions import ROWS_FROM_DAYS, Question, lent_numbers
 from .rows import ROW_BYTES, flat, some_records
@@ -22,8 +23,9 @@ def some_list(numbers, count=None):
 
 def with_number(numbers, days, field, value):
     """A list with another value in a field of the first record, the last, or one between."""
-    place = numbers.choice((0, len(days) // 5 - 1, numbers.randrange(len(days) // 5)))
-    return [*days[:5 * place + field], value, *days[5 * place + field + 1:]]
+    count = len(days) // WIDTH
+    at = WIDTH * numbers.choice((0, count - 1, numbers.randrange(count))) + field
+    return [*days[:at], value, *days[at + 1:]]
 
 
 def rooms(numbers, count):
@@ -45,20 +47,29 @@ def sound(numbers):
 
 def some_room(numbers, days):
     """Mostly the room that is needed, at times less."""
-    need = len(days) // 5 * ROW_BYTES
+    need = len(days) // WIDTH * ROW_BYTES
     return min(MOST_ROOM, numbers.choice((need, need + 20, need - 1, 0)) if need else numbers.randrange(400))
 
 
 def out_of_range(numbers):
     """Each field a unit beyond each end, and far out."""
-    for field, (low, high) in enumerate(ORIENTATION):
+    for field, (low, high) in enumerate(MARKED):
         for value in (*[low - 1, high + 1] * 10, low - 100, high + 100, LEAST, GREATEST):
             yield with_number(numbers, some_list(numbers), field, value)
 
 
 def at_ends(numbers):
-    for field, ends in enumerate(ORIENTATION):
+    for field, ends in enumerate(MARKED[:5]):
         yield from (with_number(numbers, some_list(numbers), field, value) for value, _ in product(ends, range(3)))
+
+
+def marks(numbers):
+    """Records with UT1R, which rows cannot hold: one, and all; and lists without marks."""
+    for _ in range(10):
+        yield with_number(numbers, some_list(numbers), 5, 0)
+        yield [0 if i % WIDTH == 5 else number for i, number in enumerate(some_list(numbers))]
+        yield [number for i, number in enumerate(some_list(numbers)) if i % WIDTH < 5]
+        yield [number for i, number in enumerate(some_list(numbers, numbers.choice((6, 12)))) if i % WIDTH < 5]
 
 
 def parts_of_hundreds(numbers):
@@ -69,10 +80,10 @@ def parts_of_hundreds(numbers):
 
 def ragged(numbers):
     """Lists that are no whole number of records."""
-    for more, count in product((-4, -1, 1, 4), (2, 3, 64)):
+    for more, count in product((-5, -1, 1, 5), (2, 3, 64)):
         days = some_list(numbers, count)
         yield days[:more] if more < 0 else days + days[:more]
-    yield from ([0] * length for length in (1, 4))
+    yield from ([0] * length for length in (1, 5))
 
 
 def miscounted(numbers):
@@ -83,6 +94,6 @@ def miscounted(numbers):
 
 def questions(numbers):
     made = [*sound(numbers)]
-    for make in (out_of_range, at_ends, parts_of_hundreds, ragged, miscounted):
+    for make in (out_of_range, at_ends, marks, parts_of_hundreds, ragged, miscounted):
         made += [question(days, some_room(numbers, days)) for days in make(numbers)]
     return made

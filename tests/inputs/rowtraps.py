@@ -3,7 +3,7 @@
 import re
 
 from reference import bulletin, session
-from reference.session import ORIENTATION
+from reference.session import MARKED
 from reference.whole import within
 
 from .questions import DAYS_FROM_ROWS, index, numbers_lent
@@ -154,7 +154,7 @@ def of_values(taken):
 def applying(text, first, count, tai, taken):
     """The numbers of the reader that apply, each by itself, in the order in which they are given."""
     rows = [row for row in taken.values() if None not in bulletin.values_of(row)]
-    beyond = any(bulletin.out_of_range((LAST_DAY, *bulletin.values_of(row), 0)) for row in rows)
+    beyond = any(bulletin.out_of_range((LAST_DAY, *bulletin.values_of(row), 0, bulletin.FULL_UT1)) for row in rows)
     tests = {
         1: bulletin.too_long(text),
         10: bulletin.misread(bulletin.rows_of(text), taken),
@@ -199,8 +199,8 @@ def of_room(count, room):
 
 def of_writer(days, room):
     """The traps of a list that is written."""
-    count, ragged = divmod(len(days), 5)
-    records = session.rows(days, 5)[:count]
+    count, ragged = divmod(len(days), bulletin.WIDTH)
+    records = session.rows(days, bulletin.WIDTH)[:count]
     counts = {0: "no record", 1: "one record", 2: "two records", 64: "64 records", 65: "65 records"}
     numbers = [2] * bulletin.unwritable(days) + [7] * (room < count * ROW_BYTES)
     follow = all(after[0] == before[0] + 1 for before, after in zip(records, records[1:]))
@@ -211,8 +211,11 @@ def of_writer(days, room):
         "days that do not follow": not follow,
         "UT1-UTC in parts of 100": any(record[3] % 100 and record[3] > 0 for record in records),
         "negative UT1-UTC in parts of 100": any(record[3] % 100 and record[3] < 0 for record in records),
+        "marks 0 and 1": {record[5] for record in records} == {0, 1},
+        "marks 0 alone": {record[5] for record in records} == {0},
+        "five numbers a record": ragged > 0 and len(days) % 5 == 0,
     }
-    for place, (low, high) in enumerate(ORIENTATION):
+    for place, (low, high) in enumerate(MARKED):
         values = {record[place] for record in records}
         for name, value in (("low", low), ("high", high), ("too low", low - 1), ("too high", high + 1)):
             found["%s in field %d" % (name, place)] = value in values

@@ -1,7 +1,9 @@
-"""The questions of crates/answers/stdin: document 01's, some delays, and of each call one for each number it gives."""
+"""The questions of crates/answers/stdin: document 01's, some delays, some of marks, and of each call one for each number it gives."""
 
-from . import chosen, earth, together, track
-from .questions import DELAY, NAMES, ORIENTATION, SAMPLES, Question, refusal
+from reference import session
+
+from . import chosen, earth, together, track, write
+from .questions import CHECK, DAY, DELAY, FAULT, NAMES, ORIENTATION, SAMPLES, Question, refusal
 
 # The numbers that documents 01 and 02 let each call give, beside an answer.
 GIVEN = {
@@ -49,6 +51,19 @@ def of_two_stations():
     yield from (Question(SAMPLES, index, room=6, lent=file) for index in range(5))
 
 
+def of_marks():
+    """A file of kind 5: its days, and what they give over a midnight; its days written, and written as kind 3; a mark that is none."""
+    file, wrong = chosen.marked_passes(1, 0, 1), chosen.small_marked(1, 2)
+    yield Question(CHECK, lent=file)
+    yield from (Question(DAY, index, lent=file) for index in range(3))
+    yield from (Question(ORIENTATION, 60_000, ms, lent=file) for ms in (0, 86_399_000))
+    yield Question(DELAY, 10, 20, 1, 60_000, 86_399_000, lent=file)
+    yield Question(SAMPLES, 0, room=5, lent=file)
+    yield from (write.question(kind, write.flats_of(session.sections_of(file)), len(file)) for kind in (5, 3, 4))
+    yield from (Question(what, lent=wrong) for what in (CHECK, FAULT))
+
+
 def short(known):
     of_two_passes = together.in_rooms(together.ROUGH, together.CALM)
-    return [*earth.document(), *track.document_questions(), *of_two_stations(), *of_two_passes, *of_each_kind(known)]
+    chosen_ones = [*of_two_stations(), *of_two_passes, *of_marks()]
+    return [*earth.document(), *track.document_questions(), *chosen_ones, *of_each_kind(known)]

@@ -1,12 +1,16 @@
 """Seeded session files that the check accepts, as four lists of records.
 
 Passes of them may be refused: some name an id that is not there, some reach an epoch that the orientation days do not cover.
+An orientation record has the numbers that it has in the file: six in kind 5, the mark last, and five in kind 3.
 """
 
+import random
 from bisect import bisect_left
+from itertools import cycle
 
 from reference.delay import orientation_of
 from reference.earth import DAY_MS
+from reference.session import MARKED, encode, layouts_with
 from reference.sine import TURN, cosine
 
 from . import leapseconds
@@ -14,6 +18,20 @@ from . import leapseconds
 GREATEST_LENGTH = 6_400_000_000
 GREATEST_POLE = 1_000_000
 QUARTER = 2**30
+
+
+def kind_of(lists):
+    """The kind of a session's days: 5 where they have marks."""
+    return 5 if len(lists[2][0]) == len(MARKED) else 3
+
+
+def layouts(lists):
+    """Kind, ranges and limits of the count of each list."""
+    return layouts_with(kind_of(lists))
+
+
+def file_of(lists):
+    return encode(lists, kind_of(lists))
 
 
 def some_ids(numbers, count):
@@ -65,6 +83,27 @@ def some_days(numbers, count):
     first = numbers.choice((41_317, 69_807 - count)) if numbers.random() < 0.08 else numbers.randint(low, high)
     values = calm_days(numbers, count) if numbers.random() < 0.5 else [wild_day(numbers) for _ in range(count)]
     return [(first + i, *value) for i, value in enumerate(values)]
+
+
+def marked(days, marks):
+    """The days with marks, which are taken in turn."""
+    return [(*day[:5], mark) for day, mark in zip(days, cycle(marks))]
+
+
+def unmarked(days):
+    return [day[:5] for day in days]
+
+
+def some_marks(numbers, count):
+    """All 0, all 1, or mixed."""
+    marks = numbers.choice(((0,), (1,), (0, 1), (0, 1), (0, 1)))
+    return [numbers.choice(marks) for _ in range(count)]
+
+
+def with_marks(numbers, lists):
+    """The session with its days in kind 5."""
+    stations, sources, days, passes = lists
+    return (stations, sources, marked(days, some_marks(numbers, len(days))), passes)
 
 
 def some_name(numbers, records):
@@ -160,6 +199,32 @@ def widest_leaps():
     return [(55_000 + i, 0, 0, -900_000_000 if i % 2 else 900_000_000, 99 * (i % 2)) for i in range(12)]
 
 
+def minute_leaps(seconds):
+    """TAI-UTC rises by a second, and falls, where that moves 0h UTC into another minute of TT."""
+    return [(49_160 + i, 1_000 * i, -1_000 * i, 10**9 * (i % 2) - 500_000_000, seconds + i % 2) for i in range(16)]
+
+
+def leaps_unmarked():
+    return [widest_leaps(), *(unmarked(leapseconds.as_filed(days)) for days in leapseconds.published())]
+
+
+def leaps_marked():
+    """With each two marks over a step of either sign; as published; as published and as filed in turn."""
+    for days in (widest_leaps(), minute_leaps(27), minute_leaps(87)):
+        yield from (marked(days, marks) for marks in ((0, 0, 1, 1), (0, 1, 1, 0)))
+    for published in leapseconds.published():
+        yield published
+        yield [pair[i % 2] for i, pair in enumerate(zip(published, leapseconds.as_filed(published)))]
+
+
+def beyond_session(numbers, sign):
+    """UT1-UTC so near to an end of its range that the tide can take UT1R beyond it."""
+    first, tai = numbers.randint(41_317, 69_800), numbers.choice((10, 27, 37, 87))
+    values = [900_000_000 - numbers.choice((0, 0, 1, numbers.randint(0, 2_000_000))) for _ in range(6)]
+    days = [(first + i, 1_000 * i, 0, sign * value, tai + numbers.randrange(2)) for i, value in enumerate(values)]
+    return leap_session(numbers, marked(days, [numbers.choice((0, 1, 1, 1)) for _ in days]))
+
+
 def tick_of_few_bits():
     """A tick whose cosine is an odd multiple of 2^29, or else of 2^28, and so on; and 2^29 by that power."""
     for scale in (1, 2, 4, 8):
@@ -173,7 +238,7 @@ def tick_of_few_bits():
 def halves_session(numbers):
     """Baselines along one axis, each seen where the cosine makes the projection lie midway between two millimetres."""
     days = [(60_000, 0, 0, numbers.randint(-(10**8), 10**8), 37), (60_001, 0, 0, 0, 37)]
-    *_, angle = orientation_of(*days, 0)
+    *_, angle = orientation_of(*marked(days, (0,)), 0)
     tick, scale = tick_of_few_bits()
     odd_lengths = (7, -5, 2_000_001, -(GREATEST_LENGTH // scale - 1))
     stations = [(1, 0, 0, 0), *((2 + i, scale * length, 0, 0) for i, length in enumerate(odd_lengths))]
@@ -189,8 +254,14 @@ def zero_session():
     return ([(1, 0, 0, 0)], [(1, 0, 0)], days, [(1, 1, 1, 41_317, 0, 1, 1, 0)])
 
 
+def third_marked(sessions, seed=5_105):
+    """Each third session with marks, of numbers of its own: the others stay what they are without them."""
+    marks = random.Random(seed)
+    return [with_marks(marks, lists) if i % 3 == 2 else lists for i, lists in enumerate(sessions)]
+
+
 def sessions(numbers, count):
-    """All sound sessions: the chosen ones, then `count` seeded ones."""
+    """All sound sessions: the chosen ones, then `count` seeded ones, then those over leap seconds."""
     return [
         zero_session(),
         halves_session(numbers),
@@ -200,6 +271,7 @@ def sessions(numbers, count):
         hour_session(numbers, 1_513),
         hour_session(numbers, 4_096),
         *(last_day_session(numbers, DAY_MS - 10_000, samples) for samples in (9, 10, 11)),
-        *(some_session(numbers) for _ in range(count)),
-        *(leap_session(numbers, days) for days in (widest_leaps(), *map(leapseconds.as_filed, leapseconds.published()))),
+        *third_marked([some_session(numbers) for _ in range(count)]),
+        *(leap_session(numbers, days) for days in (*leaps_unmarked(), *leaps_marked())),
+        *(beyond_session(numbers, sign) for sign in (1, -1) for _ in range(6)),
     ]

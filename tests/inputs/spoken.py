@@ -11,11 +11,11 @@ FIRST_DAY, LAST_DAY = 60_000, 60_002
 
 
 def lists(stations=(10,), sources=(1,), days=(FIRST_DAY, FIRST_DAY + 1, LAST_DAY), passes=()):
-    """Records with these ids and days; every other field is one that is allowed."""
+    """Records with these ids and days; every other field is one that is allowed, the mark 1."""
     return (
         [(name, 4_075_540_000 - name, 931_735_000, 4_801_629_000) for name in stations],
         [(name, 2_247_483_648, 24_469_000) for name in sources],
-        [(day, 100_000, 400_000, -20_000_000, 37) for day in days],
+        [(day, 100_000, 400_000, -20_000_000, 37, 1) for day in days],
         [*passes] or [(stations[0], stations[-1], sources[0], days[0], 0, 1_000, 3, 0)],
     )
 
@@ -36,14 +36,15 @@ def orders():
     return [
         *(encode(lists(stations=names)) for names in ids),
         *(encode(lists(sources=names)) for names in ids),
-        *(encode(lists(days=some)) for some in (*days, (69_805, 69_806, 41_317))),
+        *(encode(lists(days=some), kind) for some in (*days, (69_805, 69_806, 41_317)) for kind in (3, 5)),
     ]
 
 
 def wrong_counts():
     """Counts that stay in their limits and are wrong: they show at the next first byte, the last one as the length."""
-    file = encode(lists(stations=(10, 20, 30), sources=(1, 2), passes=2 * [(10, 20, 1, FIRST_DAY, 0, 1_000, 3, 0)]))
-    return [with_word(file, word, session.word(file, 8 * word) + 1) for word in (3, 6, 9, 12)]
+    some = lists(stations=(10, 20, 30), sources=(1, 2), passes=2 * [(10, 20, 1, FIRST_DAY, 0, 1_000, 3, 0)])
+    files = (encode(some, kind) for kind in (3, 5))
+    return [with_word(file, word, session.word(file, 8 * word) + 1) for file in files for word in (3, 6, 9, 12)]
 
 
 def planned(day, ms, step, samples):
