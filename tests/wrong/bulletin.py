@@ -2,7 +2,7 @@
 
 import re
 
-from reference import bulletin
+from reference import bulletin, delay
 
 from . import decimals
 from .decimals import right
@@ -95,15 +95,25 @@ def one_more_day(rows, first, count):
 
 
 def records_in_row_order(taken, tai):
-    return [(day, *right.values_of(row), seconds) for (day, row), seconds in zip(taken.items(), tai)]
+    return [(day, *right.values_of(row), seconds, 1) for (day, row), seconds in zip(taken.items(), tai)]
 
 
 def first_tai(taken, tai):
-    return [(*record[:4], tai[0]) for record in right.records_of(taken, tai)]
+    return [(*record[:4], tai[0], record[5]) for record in right.records_of(taken, tai)]
 
 
 def swapped(taken, tai):
-    return [(day, y, x, ut1, seconds) for day, x, y, ut1, seconds in right.records_of(taken, tai)]
+    return [(day, y, x, *others) for day, x, y, *others in right.records_of(taken, tai)]
+
+
+def marked(mark):
+    """Records with another mark."""
+    return lambda taken, tai: [(*record[:5], mark(record)) for record in right.records_of(taken, tai)]
+
+
+def less_tide(taken, tai):
+    """UT1R in the records, marked 0."""
+    return [(*day[:3], delay.ut1r_of(day), day[4], 0) for day in right.records_of(taken, tai)]
 
 
 def request_with(counts=range(2, 65), days=range(41_317, 69_807), listed=lambda numbers, count: numbers == count):
@@ -113,7 +123,7 @@ def request_with(counts=range(2, 65), days=range(41_317, 69_807), listed=lambda 
 
 def unjudged(place):
     """A field of the records whose range is not tested."""
-    return lambda record: right.out_of_range((*record[:place], max(0, bulletin.ORIENTATION[place][0]), *record[place + 1:]))
+    return lambda record: right.out_of_range((*record[:place], max(0, bulletin.MARKED[place][0]), *record[place + 1:]))
 
 
 def at_an_end(record):
@@ -133,8 +143,21 @@ def kept_where_refused(text, first, count, tai):
 
 def last_repeated(text, first, count, tai):
     number, *numbers = right.days_from_rows(text, first, count, tai)
-    end = 5 * count
-    return (number, *(numbers[:end] + numbers[end - 5:end] + numbers[end:] if number == 0 else numbers)[:320])
+    end = 6 * count
+    return (number, *(numbers[:end] + numbers[end - 6:end] + numbers[end:] if number == 0 else numbers)[:384])
+
+
+def marks_behind(text, first, count, tai):
+    """The mark 1 also where there is no record."""
+    number, *numbers = right.days_from_rows(text, first, count, tai)
+    return (number, *(1 if number == 0 and i % 6 == 5 else each for i, each in enumerate(numbers)))
+
+
+def without_marks(text, first, count, tai):
+    """Five numbers a record."""
+    number, *numbers = right.days_from_rows(text, first, count, tai)
+    left = [each for i, each in enumerate(numbers) if i % 6 < 5]
+    return (number, *left, *[0] * (len(numbers) - len(left)))
 
 
 FIELDS = ("MJD", "x", "y", "UT1-UTC")
@@ -180,6 +203,10 @@ RECORDS = {
     "records in the order of the rows": records_in_row_order,
     "the first TAI-UTC for all": first_tai,
     "x and y swapped": swapped,
+    "the mark 0 given": marked(lambda record: 0),
+    "the mark 1 given where UT1-UTC is not 0": marked(lambda record: min(1, abs(record[3]))),
+    "the mark 0 given of each second day": marked(lambda record: record[0] % 2),
+    "UT1R given": less_tide,
 }
 
 REQUESTS = {
@@ -219,4 +246,6 @@ WRONG = (
     ("a text of 65,537 bytes taken", bulletin, "LONGEST_TEXT", 65_537),
     ("numbers kept where refused", bulletin, "days_from_rows", kept_where_refused),
     ("the last record twice", bulletin, "days_from_rows", last_repeated),
+    ("marks behind the last record", bulletin, "days_from_rows", marks_behind),
+    ("five numbers a record", bulletin, "days_from_rows", without_marks),
 )

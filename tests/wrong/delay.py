@@ -28,18 +28,6 @@ def tide_left_out(today, tomorrow, ms, tide_used=None):
     return RIGHT_ORIENTATION(today, tomorrow, ms, lambda n: 0)
 
 
-def tide_at_one_end(today, tomorrow, ms, tide_used=earth.tide_at):
-    """The next day's value is read as full UT1: its tide is taken away before the line is drawn."""
-    tide = earth.tide_at(earth.minutes(tomorrow[0], 0, tomorrow[4]))
-    return RIGHT_ORIENTATION(today, (*tomorrow[:3], tomorrow[3] - tide, tomorrow[4]), ms, tide_used)
-
-
-def full_ut1(today, tomorrow, ms, tide_used=earth.tide_at):
-    """Both days' values are read as full UT1: each record's own tide is taken away before the line is drawn."""
-    less = [(*record[:3], record[3] - earth.tide_at(earth.minutes(record[0], 0, record[4])), record[4]) for record in (today, tomorrow)]
-    return RIGHT_ORIENTATION(*less, ms, tide_used)
-
-
 def next_days_tai(today, tomorrow, ms, tide_used=earth.tide_at):
     """The tide's minute is counted by the TAI-UTC of the next day's record."""
     return RIGHT_ORIENTATION(today, tomorrow, ms, lambda n: tide_used(earth.minutes(today[0], ms, tomorrow[4])))
@@ -48,12 +36,13 @@ def next_days_tai(today, tomorrow, ms, tide_used=earth.tide_at):
 def leap_of_the_day_after(days, day):
     """TAI-UTC of record d+2 stands in record d+1."""
     pair, after = RIGHT_DAYS(days, day), delay.named(days, day + 2)
-    return pair if pair is None or after is None else (pair[0], (*pair[1][:4], after[4]))
+    return pair if pair is None or after is None else (pair[0], (*pair[1][:4], after[4], pair[1][5]))
 
 
-def leap_at_both_ends(today, tomorrow, ms):
-    x, y, ut1r = RIGHT_VALUES(today, (*tomorrow[:4], today[4]), ms)
-    return (x, y, ut1r - RIGHT_LEAP(today, tomorrow))
+def leap_at_both_ends(today, tomorrow, ms, tide_used):
+    x, y, _ = RIGHT_VALUES(today, tomorrow, ms, tide_used)
+    ends = (delay.ut1r_of(record, tide_used) - RIGHT_LEAP(today, tomorrow) for record in (today, tomorrow))
+    return (x, y, delay.line(*ends, ms))
 
 
 def declination_unsigned(station1, station2, source, values):
@@ -107,8 +96,6 @@ WRONG = (
     ("stations exchanged", delay, "delay_of", stations_exchanged),
     ("sine for cosine of H", delay, "delay_of", sine_for_cosine),
     ("the tide left out", delay, "orientation_of", tide_left_out),
-    ("the next day's value read as full UT1", delay, "orientation_of", tide_at_one_end),
-    ("both days' values read as full UT1", delay, "orientation_of", full_ut1),
     ("TAI-UTC of the next day", delay, "orientation_of", next_days_tai),
     ("a leap second forgotten", delay, "leap_of", lambda today, tomorrow: 0),
     ("a leap second added", delay, "leap_of", lambda today, tomorrow: -RIGHT_LEAP(today, tomorrow)),

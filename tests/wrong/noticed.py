@@ -13,13 +13,13 @@ from inputs.program import printed
 from inputs.questions import lines_of
 from tally import alone
 
-from . import bulletin, days, delay, earth, program, rowlists, session, together, track, write
+from . import bulletin, days, delay, earth, marks, program, rowlists, session, together, track, write
 
 WRONG = {
     "earth": earth.WRONG,
     "session": session.WRONG,
     "write": write.WRONG,
-    "delay": delay.WRONG,
+    "delay": (*delay.WRONG, *marks.WRONG),
     "track": track.WRONG,
     "together": together.WRONG,
     "bulletin": (*bulletin.WRONG, *rowlists.WRONG),

@@ -1,6 +1,8 @@
 """Wrong track programs: what is wrong, the module and the function that it stands in for, and the wrong function."""
 
-from reference import program, session
+from reference import delay, program, session
+
+from .marks import RECORDS
 
 RIGHT_LINES, RIGHT_PASS = program.lines, program.lines_of_pass
 
@@ -44,5 +46,6 @@ WRONG = (
     ("nothing printed after a refused pass", program, "lines", ends_at_a_refused_pass),
     ("the pass line of a refused pass kept", program, "lines_of_pass", pass_line_kept),
     ("an index that leaves refused passes out", program, "lines", refused_passes_not_counted),
+    ("marks not read", delay, "ut1r_of", RECORDS["the mark not read"]),
     ("a refused file printed as 1 always", session, "refusal", lambda file: 1 if session.fault(file)[0] else 0),
 )

@@ -1,9 +1,10 @@
 """Wrong writers of rows: what is wrong, the module and the function that it stands in for, and the wrong function."""
 
-from reference import bulletin
+from reference import bulletin, session
 
 from .decimals import right
 
+MARK = 5
 NAMES = {8: "MJD", 19: "x", 38: "y", 59: "UT1-UTC"}
 
 
@@ -50,7 +51,7 @@ def ended_by_nul(days, room):
 
 def room_first(days, room):
     number, written, after = right.rows_from_days(days, room)
-    return (7, 0, room) if number and len(days) // 5 * 186 > len(room) else (number, written, after)
+    return (7, 0, room) if number and len(days) // 6 * 186 > len(room) else (number, written, after)
 
 
 def room_for_more(days, room):
@@ -65,28 +66,43 @@ def rows_counted(days, room):
 
 
 def whole_records(days, room):
-    return right.rows_from_days(days[:len(days) // 5 * 5], room)
+    return right.rows_from_days(days[:len(days) // 6 * 6], room)
 
 
 def in_hundreds(days):
     """UT1-UTC in parts of a hundred is no reason to refuse: it is cut."""
-    return right.unwritable([number // 100 * 100 if i % 5 == 3 else number for i, number in enumerate(days)])
+    return right.unwritable([number // 100 * 100 if i % 6 == 3 else number for i, number in enumerate(days)])
 
 
 def apart(days):
     """Days that do not follow each other are refused."""
-    firsts = days[::5]
+    firsts = days[::6]
     return right.unwritable(days) or any(after != before + 1 for before, after in zip(firsts, firsts[1:]))
 
 
 def unjudged(place):
     """A field whose range is not tested."""
-    value = max(0, bulletin.ORIENTATION[place][0])
-    return lambda days: right.unwritable([value if i % 5 == place else number for i, number in enumerate(days)])
+    value = 1 if place == MARK else max(0, bulletin.MARKED[place][0])
+    return lambda days: right.unwritable([value if i % 6 == place else number for i, number in enumerate(days)])
+
+
+def mark_taken(mark):
+    """Records with this mark are taken, too."""
+    return lambda days: right.unwritable([1 if i % 6 == MARK and number == mark else number for i, number in enumerate(days)])
+
+
+def first_mark(days):
+    """The first record's mark stands for all."""
+    return right.unwritable([days[MARK] if i % 6 == MARK else number for i, number in enumerate(days)])
+
+
+def in_fives(days):
+    """Records of five numbers, without a mark."""
+    return right.unwritable([number for record in session.rows(days, 5) for number in (*record, 1)])
 
 
 def sorted_days(days):
-    records = sorted(tuple(days[i:i + 5]) for i in range(0, len(days), 5))
+    records = sorted(tuple(days[i:i + 6]) for i in range(0, len(days), 6))
     return right.text_of([number for record in records for number in record])
 
 
@@ -141,7 +157,7 @@ TEXTS = {
     "a CR before each line feed": lambda days: right.text_of(days).replace(b"\n", b"\r\n"),
     "a CR for the line feed": lambda days: right.text_of(days).replace(b"\n", b"\r"),
     "rows sorted by day": sorted_days,
-    "the first row only": lambda days: right.text_of(days[:5]) * (len(days) // 5),
+    "the first row only": lambda days: right.text_of(days[:6]) * (len(days) // 6),
 }
 
 WRITERS = {
@@ -159,12 +175,16 @@ WRITERS = {
 JUDGEMENTS = {
     "UT1-UTC in parts of a hundred cut": in_hundreds,
     "days that do not follow refused": apart,
-    "one record taken": lambda days: right.unwritable(days * 2 if len(days) == 5 else days),
-    "65 records taken": lambda days: right.unwritable(days[5:] if len(days) == 325 else days),
-    "64 records refused": lambda days: right.unwritable(days) or len(days) == 320,
+    "one record taken": lambda days: right.unwritable(days * 2 if len(days) == 6 else days),
+    "65 records taken": lambda days: right.unwritable(days[6:] if len(days) == 390 else days),
+    "64 records refused": lambda days: right.unwritable(days) or len(days) == 384,
     "no record taken": lambda days: bool(days) and right.unwritable(days),
-    "the last record not judged": lambda days: right.unwritable(days[:-5] + days[:5] if len(days) >= 10 else days),
-    **{"the range of field %d not tested" % place: unjudged(place) for place in range(5)},
+    "the last record not judged": lambda days: right.unwritable(days[:-6] + days[:6] if len(days) >= 12 else days),
+    **{"the range of field %d not tested" % place: unjudged(place) for place in range(6)},
+    **{"a mark %d taken" % mark: mark_taken(mark) for mark in (0, 2, -1)},
+    "the first mark for all": first_mark,
+    "a mark 1 refused": lambda days: right.unwritable(days) or 1 in days[MARK::6],
+    "five numbers a record": in_fives,
 }
 
 WRONG = (
