@@ -9,7 +9,7 @@ import textwrap
 import inputs.days
 import inputs.sample
 from erfa.places import ticks_of
-from inputs.damaged import with_word
+from inputs.damaged import DAY_KIND, with_word
 from inputs.program import printed, said
 from rattle import ROOT
 from reference import delay, program, session, track
@@ -81,12 +81,15 @@ def worked_place(sample):
 
 def damaged(sample):
     """The sample session with one mistake each: what was done to it, and its bytes."""
-    first_pass, second_day = session.word(sample, 88) // 8, session.word(sample, 64) // 8 + 5
+    first_day, first_pass = session.word(sample, 64) // 8, session.word(sample, 88) // 8
+    mark, second_day = first_day + 5, first_day + 6
     return (
         ("a station counted that is not there", with_word(sample, 3, 4)),
+        ("days said to be of kind 6", with_word(sample, DAY_KIND, 6)),
         ("the last number cut off", sample[:-8]),
         ("text", b"Onsala 3370606 711918 5349831\nWettzell 4075540 931735 4801629\n"),
         ("X of the first station a millimetre too large", with_word(sample, 14, 6_400_000_001)),
+        ("a mark of 2", with_word(sample, mark, 2)),
         ("the second station given the id of the first", with_word(sample, 17, 7213)),
         ("the second day left out and the third in its place", with_word(sample, second_day, 54197)),
         ("a pass that names no station of the file", with_word(sample, first_pass, 7214)),
