@@ -16,7 +16,8 @@
  *                                                                              or the tracks of all passes, in one call
  *
  *     struct fringe_days read = fringe_days_from_rows(text, text_bytes, first, count, tai_utc, count);
- *                                                                              days for a file, from the IERS's text
+ *                                                                              days for a file, from the IERS's text;
+ *                                                                              fringe_write takes them as they are
  *
  * Look at `refusal` after each call. examples/host.c is such a program, whole.
  *
@@ -28,7 +29,7 @@
  *   and an emulator, as examples/run-host shows. This header is C99, C11 or C++17. The archive needs memcpy and memset
  *   of the C library, no other. It keeps nothing between calls, so calls may run at the same time. The stack that a
  *   call takes, as measured and rounded up: fringe_all_tracks 165,000 bytes, fringe_days_from_rows 75,000, fringe_track
- *   63,000, fringe_write 16,000, fringe_tide, fringe_orientation, fringe_delay and fringe_samples 3,200,
+ *   63,000, fringe_write 19,000, fringe_tide, fringe_orientation, fringe_delay and fringe_samples 3,200,
  *   fringe_rows_from_days 1,000, each of the others 400.
  *
  * Lent memory
@@ -90,29 +91,34 @@
  *   search for the worst found 14 ps. That no sum is greater is not proved yet.
  *
  * UT1
- *   An orientation record holds UT1R: UT1 less the tides of up to 35 days. The calls add the tide of the epoch.
- *   Bulletins give UT1-UTC with the tide in it, so take it away when you make a record of day `mjd` at 0h:
+ *   UT1 is the time that the Earth keeps by its turning. The Moon and the Sun raise tides, with which the Earth turns
+ *   faster and slower. What those with periods of up to 35 days do to UT1 is called the tide here, and UT1R is UT1
+ *   without it. The record of a day says by its mark what its UT1-UTC is:
+ *     mark 1    full UT1, with the tide in it, as bulletins and finals2000A print it: file it as it is printed
+ *     mark 0    UT1R. A record of kind 3 has no mark in the file, and is such a one
+ *   From a record marked 1 the calls take away the tide of 0h of its own day, by its own TAI-UTC, which is
+ *   fringe_tide(mjd, 0, tai_utc).value. They draw a straight line from the UT1R of one day to that of the next, and add
+ *   the tide of the epoch. So a file may have records of both marks, and at 0h of a day marked 1 its UT1-UTC is used as
+ *   it stands. Whoever files a bulletin's UT1-UTC with mark 0, or in a file of kind 3, takes the tide away first:
  *       ut1_utc = (the bulletin's UT1-UTC in nanoseconds) - fringe_tide(mjd, 0, tai_utc).value
- *   fringe_days_from_rows gives full UT1 and leaves this to you. So do it to each record i that it read, before
- *   fringe_write:
- *       int64_t *day = read.days + FRINGE_DAY_NUMBERS * i;
- *       day[3] -= fringe_tide(day[0], 0, day[4]).value;
- *   Otherwise the tide counts twice, and no call can notice. The tide is below 2.8 ms, so delays would be wrong by up
- *   to 0.7 ns for each 1,000 km between the stations. A later version will mark records that hold full UT1, and take
- *   the tide away by itself.
+ *   With a wrong mark the tide counts twice, or not at all, and no call can notice. The tide is below 2.8 ms, so delays
+ *   would be wrong by up to 0.7 ns for each 1,000 km between the stations.
  *   What fringe_orientation answers as `ut1_used` is full UT1-UTC, with the tide, as the delay uses it.
- *   Between two records pole and UT1R-UTC go on a straight line. Where the next record's TAI-UTC is k seconds more (a
- *   leap second: k is 1), UT1-UTC steps at its 0h and UT1 does not: the line of that day goes to the next record's
- *   UT1-UTC less k seconds, so that ut1_used may pass 900,000,000 there.
+ *   The pole goes on a straight line, too. Where the next record's TAI-UTC is k seconds more (a leap second: k is 1),
+ *   UT1-UTC steps at its 0h and UT1 does not: the line of that day goes to the next record's UT1R-UTC less k seconds,
+ *   so that ut1_used may pass 900,000,000 there.
  *
  * Session file
  *   All numbers of 8 bytes, little-endian, two's complement. First the contents table of 13 numbers: the number of
- *   sections, 4; then for the kinds 1, 2, 3, 4 in turn: kind, first byte, record count. Then the records of the four
- *   sections in that order without gaps, the first at byte 104, the last ending the file. A record, and how many:
+ *   sections, 4; then for each section in turn: kind, first byte, record count. The kinds are 1, 2, 3 or 5, and 4. Then
+ *   the records of the four sections in that order without gaps, the first at byte 104, the last ending the file. A
+ *   record, and how many:
  *     kind 1, station       id 1-65,535; X, Y, Z within 6,400,000,000 either side                          1 to 64
  *     kind 2, source        id 1-65,535; right ascension 0 to 2^32 - 1; declination within 2^30            1 to 256
  *     kind 3, day           MJD 41,317-69,806; x, y of the pole within 1,000,000; UT1-UTC within           2 to 64
  *                           900,000,000, which is UT1R-UTC, see UT1 above; TAI-UTC 0-99
+ *     kind 5, marked day    the fields of kind 3, then the mark: 1 if UT1-UTC is full UT1, 0 if it is      2 to 64
+ *                           UT1R-UTC
  *     kind 4, pass          ids of station 1, of station 2 and of the source; MJD; u, a UTC millisecond;   1 to 64
  *                           step from one sample to the next, 1-3,600,000 ms; samples, 1-4,096;
  *                           tolerance 0-1,000,000
@@ -124,14 +130,15 @@
  * Rows of finals2000A
  *   finals2000A is a text file of the IERS, the service that measures how the Earth turns. It has a row for each day:
  *   past days as measured, then days to come as predicted. Its values are those of 0h UTC, so a row has what a day's
- *   record is made of, but for TAI-UTC. A row is the bytes before a line feed; bytes behind the last line feed are no
- *   row. A column is a byte of the row, counted from 1. Four fields are read, those of the IERS's Bulletin A, and
- *   become whole numbers exactly:
+ *   record is made of, but for TAI-UTC. UT1-UTC of a row is full UT1. So the records that are read of rows are marked
+ *   1, and rows are written of records that are marked 1 alone.
+ *   A row is the bytes before a line feed; bytes behind the last line feed are no row. A column is a byte of the row,
+ *   counted from 1. Four fields are read, those of the IERS's Bulletin A, and become whole numbers exactly:
  *     columns  holds             unit         for example    becomes
  *     8-15     MJD               day            57419.00          57419
  *     19-27    x of the pole     arcsecond     -0.003225          -3225   microarcseconds
  *     38-46    y of the pole     arcsecond      0.299494         299494   microarcseconds
- *     59-68    UT1-UTC           second        0.0262864       26286400   nanoseconds; full UT1, see UT1 above
+ *     59-68    UT1-UTC           second        0.0262864       26286400   nanoseconds
  *   A field has in its columns: blanks or none, then '-' or nothing, then at least one digit, a point, and as many
  *   decimals as in the example, the last in the last column. So '.5', '+0.1', a tab, or blanks alone are no number. An
  *   MJD ends with '.00'. No other column is looked at, and a row may be shorter or longer than the 185 of the IERS.
@@ -147,8 +154,8 @@
 #include <stdint.h>
 
 /* the version; as a number to compare it is 10,000 times the first, and 100 times the second, and the third */
-#define FRINGE_VERSION "0.3.0"
-#define FRINGE_VERSION_NUMBER 300
+#define FRINGE_VERSION "0.4.0"
+#define FRINGE_VERSION_NUMBER 400
 
 /* ---- Limits */
 
@@ -163,12 +170,12 @@
 #define FRINGE_MOST_DELAY INT64_C(130000000000) /* ps, either side: no delay is beyond, no sample of a track may be */
 
 /* of session files */
-#define FRINGE_RIGHT_FILE_BYTES 14952     /* the longest file that is right: a room that is always enough */
+#define FRINGE_RIGHT_FILE_BYTES 15464     /* the longest file that is right: a room that is always enough */
 #define FRINGE_ANY_FILE_BYTES 65536       /* a longer file is refused by its length alone */
 #define FRINGE_CONTENTS_BYTES 104         /* the contents table */
 #define FRINGE_STATION_NUMBERS 4          /* numbers of a record, as fringe_write takes them */
 #define FRINGE_SOURCE_NUMBERS 3
-#define FRINGE_DAY_NUMBERS 5
+#define FRINGE_DAY_NUMBERS 6              /* for both kinds of days; in a file a day of kind 3 has no mark, so 5 */
 #define FRINGE_PASS_NUMBERS 8
 #define FRINGE_MOST_STATIONS 64           /* records of a file */
 #define FRINGE_MOST_SOURCES 256
@@ -179,7 +186,7 @@
 
 /* of rows of finals2000A */
 #define FRINGE_ANY_ROWS_BYTES 65536       /* longer text is refused by its length alone; 352 rows of 186 bytes fit */
-#define FRINGE_MOST_DAYS_NUMBERS 320      /* numbers of FRINGE_MOST_DAYS records */
+#define FRINGE_MOST_DAYS_NUMBERS 384      /* numbers of FRINGE_MOST_DAYS records */
 #define FRINGE_ROW_BYTES 186              /* a row that is written, its line feed among them */
 #define FRINGE_MOST_ROWS_BYTES 11904      /* FRINGE_MOST_DAYS of these rows: a room that is always enough */
 #define FRINGE_ROW_UT1_STEP 100           /* ns: UT1-UTC of a row is a multiple, since it has 7 decimals of a second */
@@ -198,7 +205,10 @@ enum fringe_refusal {
 	 * a text of rows over 65,536 bytes
 	 */
 	FRINGE_WRONG_FILE = 1,
-	/* a field of the file or of a record, or an argument of the call, is outside its range */
+	/*
+	 * a field of the file or of a record, or an argument of the call, is outside its range; or a record's mark is one
+	 * that a file of kind 3, or a row, cannot hold
+	 */
 	FRINGE_OUT_OF_RANGE = 2,
 	/* station or source ids do not rise */
 	FRINGE_IDS_DO_NOT_RISE = 3,
@@ -220,12 +230,13 @@ enum fringe_refusal {
 	FRINGE_ROW_LACKING = 11
 };
 
-/* kinds of sections of a session file */
+/* kinds of sections of a session file; its days are of kind 3 or of kind 5 */
 enum fringe_kind {
 	FRINGE_KIND_STATION = 1,
 	FRINGE_KIND_SOURCE = 2,
 	FRINGE_KIND_DAY = 3,
-	FRINGE_KIND_PASS = 4
+	FRINGE_KIND_PASS = 4,
+	FRINGE_KIND_MARKED_DAY = 5
 };
 
 /* What will be said of a track that was made elsewhere, by a call that is not there yet. */
@@ -264,8 +275,9 @@ struct fringe_rotation {
 	int64_t xx, xy, xz, yx, yy, yz, zx, zy, zz;
 };
 
+/* how many records of each kind, and the kind of the days: FRINGE_KIND_DAY or FRINGE_KIND_MARKED_DAY */
 struct fringe_counts {
-	int64_t refusal, stations, sources, days, passes;
+	int64_t refusal, stations, sources, days, passes, day_kind;
 };
 
 struct fringe_station {
@@ -276,9 +288,9 @@ struct fringe_source {
 	int64_t refusal, id, right_ascension, declination;
 };
 
-/* ut1_utc is UT1R-UTC, without the tide */
+/* ut1_utc is as the file holds it: with the tide if mark is 1, without it if mark is 0, as in each record of kind 3 */
 struct fringe_day {
-	int64_t refusal, mjd, x, y, ut1_utc, tai_utc;
+	int64_t refusal, mjd, x, y, ut1_utc, tai_utc, mark;
 };
 
 struct fringe_pass {
@@ -312,7 +324,7 @@ struct fringe_tracks {
 	int64_t counts[FRINGE_MOST_PASSES];
 };
 
-/* records of days, FRINGE_DAY_NUMBERS each: MJD, x, y, UT1-UTC with the tide, TAI-UTC; 0 behind the last */
+/* records of days, FRINGE_DAY_NUMBERS each: MJD, x, y, UT1-UTC with the tide, TAI-UTC, mark 1; 0 behind the last */
 struct fringe_days {
 	int64_t refusal;
 	int64_t days[FRINGE_MOST_DAYS_NUMBERS];
@@ -348,7 +360,7 @@ struct fringe_rotation fringe_rotate(uint32_t tick);
 
 /* ---- The session file */
 
-/* Whether the file is right, and how many records of each kind it has. Refusals: 1 to 4. */
+/* Whether the file is right, how many records of each kind it has, and the kind of its days. Refusals: 1 to 4. */
 struct fringe_counts fringe_check(const uint8_t *file, size_t file_bytes);
 
 /*
@@ -370,11 +382,16 @@ struct fringe_pass fringe_pass_at(const uint8_t *file, size_t file_bytes, uint64
 
 /*
  * Writes the session file of four lists of numbers, record after record, each record with its fields in the order of
- * 'Session file' above. value: bytes written; FRINGE_RIGHT_FILE_BYTES are always enough.
- * Refusals: 1 where a list is no whole number of records, or a count is outside its limits; 2 to 4 as fringe_check
- * would give them for the file; 7.
+ * 'Session file' above. day_kind is the kind that the days get in the file: FRINGE_KIND_MARKED_DAY, which keeps their
+ * marks, or FRINGE_KIND_DAY, for which all marks are 0 and none is written. In the list a day has FRINGE_DAY_NUMBERS
+ * numbers for either kind, its mark last. value: bytes written; FRINGE_RIGHT_FILE_BYTES are always enough.
+ * A file that fringe_check accepts is what this call makes of its day_kind and of its records, byte for byte.
+ * Refusals: 1 where a list is no whole number of records, or a count is outside its limits; 2 where day_kind is no kind
+ * of days, or is FRINGE_KIND_DAY and a mark is not 0; 2 to 4 as fringe_check would give them for the file; 7. Where
+ * day_kind is no kind of days, the length of their list is not judged.
  */
-struct fringe_number fringe_write(const int64_t *stations, size_t station_numbers,
+struct fringe_number fringe_write(int64_t day_kind,
+				  const int64_t *stations, size_t station_numbers,
 				  const int64_t *sources, size_t source_numbers,
 				  const int64_t *days, size_t day_numbers,
 				  const int64_t *passes, size_t pass_numbers,
@@ -384,8 +401,9 @@ struct fringe_number fringe_write(const int64_t *stations, size_t station_number
 
 /*
  * The records of `count` days from the MJD `first` on, of rows of finals2000A; count is 2 to FRINGE_MOST_DAYS. tai_utc
- * has TAI-UTC for each of these days, in their order. The answer holds the records, so no room is lent. They are as
- * fringe_write takes them, once you have taken the tide away: see UT1.
+ * has TAI-UTC for each of these days, in their order. The answer holds the records, so no room is lent. They are marked
+ * 1, as rows hold full UT1, and fringe_write takes them as they are, as days of FRINGE_KIND_MARKED_DAY: of `days` the
+ * first FRINGE_DAY_NUMBERS times count numbers.
  * Rows may be in any order, and may have days that are not asked for. For each day asked for its first row is taken; of
  * the other rows only the MJD is judged.
  * Refusals, the first of these: 1 where the text has more than FRINGE_ANY_ROWS_BYTES; 10 where the MJD of any row, or
@@ -399,12 +417,12 @@ struct fringe_days fringe_days_from_rows(const uint8_t *text, size_t text_bytes,
 /*
  * Writes records as rows, which fringe_days_from_rows reads back as the same records if their days follow each other
  * and it is given their TAI-UTC. Here days may come in any order. `days` has 2 to FRINGE_MOST_DAYS records, as struct
- * fringe_days has them, with full UT1, since that is what rows hold.
+ * fringe_days has them, each marked 1, since rows hold full UT1.
  * A row has 185 columns and a line feed. Each field ends in its last column, has all of its decimals, and at least one
- * digit before the point; all other columns are blank. TAI-UTC is not written.
+ * digit before the point; all other columns are blank. TAI-UTC and the mark are not written.
  * value: bytes written, FRINGE_ROW_BYTES for each record; FRINGE_MOST_ROWS_BYTES are always enough.
- * Refusals: 2 where the list is no whole number of records, their count or a field is out of its range, or UT1-UTC is
- * no multiple of FRINGE_ROW_UT1_STEP, as it hardly ever is once the tide was taken away; 7.
+ * Refusals: 2 where the list is no whole number of records, their count or a field is out of its range, a mark is not
+ * 1, or UT1-UTC is no multiple of FRINGE_ROW_UT1_STEP; 7.
  */
 struct fringe_number fringe_rows_from_days(const int64_t *days, size_t day_numbers, uint8_t *room, size_t room_bytes);
 
@@ -537,6 +555,7 @@ static inline const char *fringe_section_name(int64_t kind)
 	case FRINGE_KIND_SOURCE:
 		return "sources";
 	case FRINGE_KIND_DAY:
+	case FRINGE_KIND_MARKED_DAY:
 		return "days";
 	case FRINGE_KIND_PASS:
 		return "passes";
@@ -548,13 +567,14 @@ static inline const char *fringe_section_name(int64_t kind)
 /* The name of a field of a record, by its section's kind; fields count from 0. */
 static inline const char *fringe_field_name(int64_t kind, int64_t field)
 {
-	static const char *const names[4][8] = {
+	static const char *const names[5][8] = {
 		{"id", "X", "Y", "Z"},
 		{"id", "right ascension", "declination"},
 		{"MJD", "x", "y", "UT1-UTC", "TAI-UTC"},
 		{"station 1", "station 2", "source", "MJD", "u", "step", "samples", "tolerance"},
+		{"MJD", "x", "y", "UT1-UTC", "TAI-UTC", "mark"},
 	};
-	if (kind < 1 || kind > 4 || field < 0 || field > 7 || !names[kind - 1][field])
+	if (kind < 1 || kind > 5 || field < 0 || field > 7 || !names[kind - 1][field])
 		return "no field";
 	return names[kind - 1][field];
 }
