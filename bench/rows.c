@@ -14,7 +14,7 @@ static int64_t days[FRINGE_DAY_NUMBERS * FULL], tai[FRINGE_MOST_DAYS];
 static void fill_days(void)
 {
 	for (int i = 0; i < FULL; i++)
-		memcpy(days + 5 * i, (int64_t[]){FIRST + i, between(-1000000, 1000000), between(-1000000, 1000000), 100 * between(-9000000, 9000000), 36}, 40);
+		memcpy(days + 6 * i, (int64_t[]){FIRST + i, between(-1000000, 1000000), between(-1000000, 1000000), 100 * between(-9000000, 9000000), 36, 1}, 48);
 }
 
 static size_t published(void)
@@ -31,7 +31,7 @@ static size_t full(void)
 {
 	fill_days();
 	for (int i = 0; i < FULL; i += 32)
-		base_rows_from_days(days + 5 * i, 5 * 32, text + FRINGE_ROW_BYTES * i, FRINGE_ROW_BYTES * 32);
+		base_rows_from_days(days + 6 * i, 6 * 32, text + FRINGE_ROW_BYTES * i, FRINGE_ROW_BYTES * 32);
 	return FRINGE_ROW_BYTES * FULL;
 }
 

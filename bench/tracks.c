@@ -14,7 +14,7 @@ static const struct shape long_passes = {5, 4000}, short_passes = {40, 100};
 static const int64_t records[] = {
 	1, 4075539836, 931735270, 4801629352, 2, 3370605765, 711917674, 5349830991,
 	7, 2233382912, 25165824,
-	57753, 91234, 402345, -412345678, 37, 57754, 92345, 403456, -413456789, 37,
+	57753, 91234, 402345, -412345678, 37, 0, 57754, 92345, 403456, -413456789, 37, 0,
 };
 
 static uint8_t file[FRINGE_RIGHT_FILE_BYTES];
@@ -27,7 +27,7 @@ static void fill(struct shape s)
 	for (int64_t i = 0; i < s.passes; i++)
 		memcpy(passes + 8 * i, (int64_t[]){1, 2, 7, 57753, 1000000 * i, 1000, s.samples, 10}, 64);
 	const int64_t *lists[] = {records, records + 8, records + 11, passes};
-	bytes = base_write(lists, (size_t[]){8, 3, 10, 8 * s.passes}, file, sizeof file).value;
+	bytes = base_write(3, lists, (size_t[]){8, 3, 12, 8 * s.passes}, file, sizeof file).value;
 }
 
 /* What each callee does: the tracks of the file, with so many numbers of room. */

@@ -14,7 +14,7 @@ struct fringe_number base_tide(int64_t day, int64_t ms, int64_t tai);
 struct fringe_angle base_angle_at(int64_t day, int64_t f);
 struct fringe_counts base_check(const uint8_t *file, size_t n);
 /* The four lists and their lengths, in the order of fringe_write. */
-struct fringe_number base_write(const int64_t *const lists[4], const size_t lengths[4], uint8_t *room, size_t m);
+struct fringe_number base_write(int64_t day_kind, const int64_t *const lists[4], const size_t lengths[4], uint8_t *room, size_t m);
 struct fringe_days base_days_from_rows(const uint8_t *text, size_t n, int64_t first, int64_t count, const int64_t *tai, size_t m);
 struct fringe_number base_rows_from_days(const int64_t *days, size_t n, uint8_t *room, size_t m);
 struct fringe_earth base_orientation(const uint8_t *file, size_t n, int64_t day, int64_t ms);
@@ -30,8 +30,8 @@ int64_t base_word(const uint8_t *file, size_t at);
 int base_day_in_range(int64_t day);
 int base_ms_in_range(int64_t ms);
 
-/* How many fields a record of each kind has. */
-extern const size_t base_fields[4];
+/* How many fields a record of each kind has, by the kind. */
+extern const size_t base_fields[6];
 
 static inline int64_t base_floor(int64_t a, int64_t b) { return a / b - (a % b < 0); }
 

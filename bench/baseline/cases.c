@@ -49,7 +49,7 @@ static void of_a_file(const int64_t q[8]) {
     switch (q[0]) {
     case 8:
         c = base_check(lent, length);
-        print((int64_t[]){c.refusal, c.stations, c.sources, c.days, c.passes}, 5);
+        print((int64_t[]){c.refusal, c.stations, c.sources, c.days, c.passes, c.day_kind}, 6);
         break;
     case 14:
         e = base_orientation(lent, length, q[1], q[2]);
@@ -92,7 +92,7 @@ static void with_bytes(const int64_t q[8], size_t m) {
     size_t lengths[4];
     if (m > MOST_BYTES || (q[0] == 17 && !parted(q, lists, lengths))) return;
     memset(bytes, 165, m);
-    answer(q[0] == 17 ? base_write(lists, lengths, bytes, m) : base_rows_from_days(numbers, length / 8, bytes, m));
+    answer(q[0] == 17 ? base_write(q[4], lists, lengths, bytes, m) : base_rows_from_days(numbers, length / 8, bytes, m));
     for (size_t i = 0; i < m; i++) printf("%02x", bytes[i]);
     printf("\n");
 }

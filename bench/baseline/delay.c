@@ -1,40 +1,47 @@
-/* Document 01, 'Day values' and 'Delay', and document 02, L1. Of a pass the look-ups, the baseline and the declination are worked out once, the tide once a minute. */
+/* Document 01, 'Day values' and 'Delay', and document 02, L1 and L4. Of a pass the look-ups, the baseline and the declination are worked out once, a day's record is
+   read, and its tide taken away, once, and the tide of an epoch is worked out once a minute. */
 #include "baseline.h"
 
 struct place { int64_t x, y, z; };
 struct wave { struct place baseline; uint32_t ascension; int64_t cos_dec, sin_dec; };
 struct minute { int64_t n, tide; };
-struct day { const uint8_t *today, *tomorrow; };
+struct record { int64_t mjd, x, y, ut1r, tai; };
+struct days { struct record today, tomorrow; };
 
 /* The record of a section whose first number is `name`, or none. */
 static const uint8_t *named(const uint8_t *file, size_t place, int64_t name) {
     size_t first = (size_t)base_word(file, 16 + 24 * place), count = (size_t)base_word(file, 24 + 24 * place);
-    for (size_t i = 0; i < count; i++, first += 8 * base_fields[place])
+    size_t bytes = 8 * base_fields[base_word(file, 8 + 24 * place)];
+    for (size_t i = 0; i < count; i++, first += bytes)
         if (base_word(file, first) == name) return file + first;
     return NULL;
 }
 
-static struct day two_days(const uint8_t *file, int64_t day) {
-    return (struct day){named(file, 2, day), named(file, 2, day + 1)};
+static int covered(const uint8_t *file, int64_t day) { return named(file, 2, day) != NULL && named(file, 2, day + 1) != NULL; }
+
+/* The record of a day that the file has, with UT1R: one marked 1 holds the tide of its own 0h. */
+static struct record record_of(const uint8_t *file, int64_t day) {
+    const uint8_t *at = named(file, 2, day);
+    int64_t ut1 = base_word(at, 24), tai = base_word(at, 32);
+    if (base_word(file, 56) == 5 && base_word(at, 40) == 1) ut1 -= base_tide_at(base_minutes(day, 0, tai));
+    return (struct record){day, base_word(at, 8), base_word(at, 16), ut1, tai};
 }
 
-static int covered(struct day d) { return d.today != NULL && d.tomorrow != NULL; }
+static struct days two_days(const uint8_t *file, int64_t day) { return (struct days){record_of(file, day), record_of(file, day + 1)}; }
 
-/* A field of the two records at a millisecond of the day, on a straight line; what the next day's value steps by is left out. */
-static int64_t line(struct day d, size_t field, int64_t step, int64_t ms) {
-    int64_t v0 = base_word(d.today, 8 * field), v1 = base_word(d.tomorrow, 8 * field) - step;
-    return v0 + base_nearest((v1 - v0) * ms, 86400000);
-}
+/* The value at a millisecond of the day, on a straight line. */
+static int64_t line(int64_t v0, int64_t v1, int64_t ms) { return v0 + base_nearest((v1 - v0) * ms, 86400000); }
 
 /* Nanoseconds by which TAI-UTC rises from one record to the next. */
-static int64_t leap(struct day d) { return (base_word(d.tomorrow, 32) - base_word(d.today, 32)) * 1000000000; }
+static int64_t leap(const struct days *d) { return (d->tomorrow.tai - d->today.tai) * 1000000000; }
 
-static struct fringe_earth orientation_of(struct day d, int64_t ms, struct minute *kept) {
-    struct fringe_earth answer = {0, line(d, 1, 0, ms), line(d, 2, 0, ms), line(d, 3, leap(d), ms), 0};
-    int64_t day = base_word(d.today, 0), n = base_minutes(day, ms, base_word(d.today, 32)), e;
+static struct fringe_earth orientation_of(const struct days *d, int64_t ms, struct minute *kept) {
+    const struct record *r0 = &d->today, *r1 = &d->tomorrow;
+    struct fringe_earth answer = {0, line(r0->x, r1->x, ms), line(r0->y, r1->y, ms), line(r0->ut1r, r1->ut1r - leap(d), ms), 0};
+    int64_t n = base_minutes(r0->mjd, ms, r0->tai), e;
     if (n != kept->n) *kept = (struct minute){n, base_tide_at(n)};
     answer.ut1_used += kept->tide;
-    answer.tick = base_turned(day, 1000 * ms + base_floor(answer.ut1_used, 1000), &e);
+    answer.tick = base_turned(r0->mjd, 1000 * ms + base_floor(answer.ut1_used, 1000), &e);
     return answer;
 }
 
@@ -76,10 +83,11 @@ static const struct minute none = {INT64_MIN, 0};
 struct fringe_earth base_orientation(const uint8_t *file, size_t n, int64_t day, int64_t ms) {
     int in_range = base_day_in_range(day) && base_ms_in_range(ms);
     int64_t refusal = lower(base_check(file, n).refusal, in_range ? 0 : 2);
-    if (refusal == 0 && !covered(two_days(file, day))) refusal = 6;
+    if (refusal == 0 && !covered(file, day)) refusal = 6;
     if (refusal != 0) return (struct fringe_earth){refusal, 0, 0, 0, 0};
+    struct days d = two_days(file, day);
     struct minute kept = none;
-    return orientation_of(two_days(file, day), ms, &kept);
+    return orientation_of(&d, ms, &kept);
 }
 
 static int is_id(int64_t name) { return 1 <= name && name <= 65535; }
@@ -89,11 +97,11 @@ struct fringe_number base_delay(const uint8_t *file, size_t n, int64_t station1,
     int64_t refusal = lower(base_check(file, n).refusal, in_range ? 0 : 2);
     if (refusal != 0) return (struct fringe_number){refusal, 0};
     const uint8_t *one = named(file, 0, station1), *two = named(file, 0, station2), *star = named(file, 1, source);
-    struct day d = two_days(file, day);
-    struct minute kept = none;
     if (one == NULL || two == NULL || star == NULL) return (struct fringe_number){5, 0};
-    if (!covered(d)) return (struct fringe_number){6, 0};
-    return (struct fringe_number){0, delay_of(wave_of(one, two, star), orientation_of(d, ms, &kept))};
+    if (!covered(file, day)) return (struct fringe_number){6, 0};
+    struct days d = two_days(file, day);
+    struct minute kept = none;
+    return (struct fringe_number){0, delay_of(wave_of(one, two, star), orientation_of(&d, ms, &kept))};
 }
 
 struct fringe_number base_samples(const uint8_t *file, size_t n, uint64_t pass, int64_t *room, size_t m) {
@@ -106,17 +114,17 @@ struct fringe_number base_samples(const uint8_t *file, size_t n, uint64_t pass, 
     if (one == NULL || two == NULL || star == NULL) return (struct fringe_number){5, 0};
     int64_t day = base_word(planned, 24), ms = base_word(planned, 32), step = base_word(planned, 40);
     int64_t samples = base_word(planned, 48), last = day + (ms + (samples - 1) * step) / 86400000;
-    if (!covered(two_days(file, day)) || !covered(two_days(file, last))) return (struct fringe_number){6, 0};
+    if (!covered(file, day) || !covered(file, last)) return (struct fringe_number){6, 0};
     if ((size_t)samples > m) return (struct fringe_number){7, 0};
     struct wave wave = wave_of(one, two, star);
-    struct day d = two_days(file, day);
+    struct days d = two_days(file, day);
     struct minute kept = none;
     for (int64_t i = 0; i < samples; i++, ms += step) {
         if (ms >= 86400000) {
             ms -= 86400000;
-            d = two_days(file, ++day);
+            d = (struct days){d.tomorrow, record_of(file, ++day + 1)};
         }
-        room[i] = delay_of(wave, orientation_of(d, ms, &kept));
+        room[i] = delay_of(wave, orientation_of(&d, ms, &kept));
     }
     return (struct fringe_number){0, samples};
 }

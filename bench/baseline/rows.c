@@ -1,4 +1,4 @@
-/* Document 02, L3: orientation records from rows of finals2000A, and rows from records. */
+/* Document 02, L3 and L4: orientation records from rows of finals2000A, and rows from records. A record has six numbers, its mark last. */
 #include "baseline.h"
 
 #include <string.h>
@@ -71,11 +71,12 @@ static int taken_filled(const struct day_row *rows, size_t n, int64_t first, int
     return 1;
 }
 
+/* Whether a record can stand in a row, but for the unit of UT1-UTC: its fields are in their ranges, and it holds full UT1. */
 static int day_right(const int64_t *day) {
     static const int64_t most[3] = {1000000, 1000000, 900000000};
     for (int i = 0; i < 3; i++)
         if (day[1 + i] < -most[i] || day[1 + i] > most[i]) return 0;
-    return base_day_in_range(day[0]) && day[4] >= 0 && day[4] <= 99;
+    return base_day_in_range(day[0]) && day[4] >= 0 && day[4] <= 99 && day[5] == 1;
 }
 
 static int count_right(int64_t count) { return count >= 2 && count <= 64; }
@@ -92,10 +93,11 @@ struct fringe_days base_days_from_rows(const uint8_t *text, size_t n, int64_t fi
         if (first_with(rows, all, first + k) == all) return refused(11);
     if (!base_day_in_range(first) || !count_right(count) || m != (size_t)count) return refused(2);
     for (int64_t k = 0; k < count; k++) {
-        int64_t *day = answer.days + 5 * k;
+        int64_t *day = answer.days + 6 * k;
         day[0] = first + k;
         fields_of(&rows[first_with(rows, all, first + k)], day + 1);
         day[4] = tai[k];
+        day[5] = 1;
         if (!day_right(day)) return refused(2);
     }
     return answer;
@@ -114,16 +116,16 @@ static void put_decimal(uint8_t *row, struct columns c, int64_t value) {
 }
 
 struct fringe_number base_rows_from_days(const int64_t *days, size_t n, uint8_t *room, size_t m) {
-    size_t count = n / 5, bytes = 186 * count;
-    if (n % 5 != 0 || !count_right((int64_t)count)) return (struct fringe_number){2, 0};
+    size_t count = n / 6, bytes = 186 * count;
+    if (n % 6 != 0 || !count_right((int64_t)count)) return (struct fringe_number){2, 0};
     for (size_t i = 0; i < count; i++)
-        if (!day_right(days + 5 * i) || days[5 * i + 3] % 100 != 0) return (struct fringe_number){2, 0};
+        if (!day_right(days + 6 * i) || days[6 * i + 3] % 100 != 0) return (struct fringe_number){2, 0};
     if (bytes > m) return (struct fringe_number){7, 0};
     memset(room, ' ', bytes);
     for (size_t i = 0; i < count; i++) {
         uint8_t *row = room + 186 * i;
-        put_decimal(row, mjd, 100 * days[5 * i]);
-        for (int j = 0; j < 3; j++) put_decimal(row, values[j], days[5 * i + 1 + (size_t)j]);
+        put_decimal(row, mjd, 100 * days[6 * i]);
+        for (int j = 0; j < 3; j++) put_decimal(row, values[j], days[6 * i + 1 + (size_t)j]);
         row[185] = '\n';
     }
     return (struct fringe_number){0, (int64_t)bytes};
