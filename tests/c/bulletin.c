@@ -98,42 +98,69 @@ static void round_trip(const struct full_row *row)
 	holds_bytes(rows, sizeof rows);
 }
 
-static uint8_t made[FRINGE_RIGHT_FILE_BYTES];
+/* ---- days of rows in a session file */
 
-/* the sound file with these days for its own; how many bytes it has */
-static size_t with_days(const int64_t *days)
+/* the sound file with these days for its own, in the room: the answer */
+static struct fringe_number with_days(int64_t day_kind, const int64_t *days)
 {
-	const int64_t *had = counts_rows[0].want + 1, *stations = sound + FRINGE_CONTENTS_BYTES / 8;
-	size_t lengths[] = {FRINGE_STATION_NUMBERS * (size_t)had[0], FRINGE_SOURCE_NUMBERS * (size_t)had[1],
-			    FRINGE_DAY_NUMBERS * (size_t)had[2], FRINGE_PASS_NUMBERS * (size_t)had[3]};
-	const int64_t *sources = stations + lengths[0], *passes = sources + lengths[1] + lengths[2];
-	struct fringe_number r = fringe_write(stations, lengths[0], sources, lengths[1], days, FRINGE_MOST_DAYS_NUMBERS,
-					      passes, lengths[3], made, sizeof made);
-	one(r.refusal, FRINGE_ANSWERED);
-	return (size_t)r.value;
+	const struct write_row *row = write_rows;
+	empty_byte_room();
+	return fringe_write(day_kind, row->lists[0], row->lengths[0], row->lists[1], row->lengths[1], days,
+			    FRINGE_MOST_DAYS_NUMBERS, row->lists[3], row->lengths[3], byte_room, ROOM_BYTES);
 }
 
-/* as the header says, the tide is taken away before days are filed: the orientation at 0h then is what was published */
-static void filed(const struct full_row *row)
+/* lends that file, which is right */
+static void lend_days(const char *what, int64_t day_kind, const int64_t *days)
 {
+	struct fringe_number r = with_days(day_kind, days);
+	test(what);
+	one(r.refusal, FRINGE_ANSWERED);
+	lend_bytes(byte_room, (size_t)r.value);
+}
+
+/* UT1-UTC that the lent file uses at an epoch */
+static int64_t ut1_used(int64_t day, int64_t ms)
+{
+	struct fringe_earth r = fringe_orientation(file, file_bytes, day, ms);
+	one(r.refusal, FRINGE_ANSWERED);
+	return r.ut1_used;
+}
+
+/* the same days without their tides, marked 0: as either kind they are used as the marked ones are, at noon, too */
+static void without_tides(const struct full_row *row)
+{
+	static int64_t noons[FRINGE_MOST_DAYS - 1];
 	int64_t days[FRINGE_MOST_DAYS_NUMBERS];
 	memcpy(days, row->days, sizeof days);
 	for (size_t i = 0; i < FRINGE_MOST_DAYS; i++) {
 		int64_t *day = days + FRINGE_DAY_NUMBERS * i;
 		day[3] -= fringe_tide(day[0], 0, day[4]).value;
+		day[5] = 0;
 	}
-	test("days of rows in a session file");
-	size_t bytes = with_days(days);
+	for (size_t i = 0; i < COUNT(noons); i++)
+		noons[i] = ut1_used(row->first + (int64_t)i, 43200000);
+	for (int64_t kind = FRINGE_KIND_DAY; kind <= FRINGE_KIND_MARKED_DAY; kind += 2) {
+		lend_days("days without their tides", kind, days);
+		for (size_t i = 0; i < COUNT(noons); i++) {
+			one(ut1_used(row->first + (int64_t)i, 0), row->days[FRINGE_DAY_NUMBERS * i + 3]);
+			one(ut1_used(row->first + (int64_t)i, 43200000), noons[i]);
+		}
+	}
+}
+
+/* days of rows go into a file as they are: the orientation at 0h then is what was published */
+static void filed(const struct full_row *row)
+{
+	lend_days("days of rows in a session file", FRINGE_KIND_MARKED_DAY, row->days);
 	for (size_t i = 0; i < FRINGE_MOST_DAYS - 1; i++) {
 		const int64_t *day = row->days + FRINGE_DAY_NUMBERS * i;
-		struct fringe_earth r = fringe_orientation(made, bytes, day[0], 0);
+		struct fringe_earth r = fringe_orientation(file, file_bytes, day[0], 0);
 		same((int64_t[]){r.refusal, r.x, r.y, r.ut1_used}, (int64_t[]){FRINGE_ANSWERED, day[1], day[2], day[3]}, 4);
 	}
-	empty_byte_room();
-	test("no rows hold days without the tide");
-	number(fringe_rows_from_days(days, FRINGE_MOST_DAYS_NUMBERS, byte_room, FRINGE_MOST_ROWS_BYTES),
-	       (int64_t[]){FRINGE_OUT_OF_RANGE, 0});
-	holds_bytes(made, 0);
+	without_tides(row);
+	test("days of rows as kind 3");
+	number(with_days(FRINGE_KIND_DAY, row->days), (int64_t[]){FRINGE_OUT_OF_RANGE, 0});
+	holds_bytes(file, 0);
 }
 
 void bulletin(void)

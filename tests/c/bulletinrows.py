@@ -134,33 +134,42 @@ def full_table():
 # ---- rows from days
 
 RECORDS = [
-    57_753, 91_234, -402_345, -412_345_600, 36,
-    57_754, -7, 0, 587_654_300, 37,
-    41_317, 1_000_000, -1_000_000, 900_000_000, 0,
+    57_753, 91_234, -402_345, -412_345_600, 36, 1,
+    57_754, -7, 0, 587_654_300, 37, 1,
+    41_317, 1_000_000, -1_000_000, 900_000_000, 0, 1,
 ]
 
 
+def changes():
+    """Place and value of a change that is written, then of one that is refused."""
+    yield ((12, 69_806), (0, 57_755), (7, -1_000_000), (2, 1), (3, 0), (3, -100), (15, -900_000_000), (4, 99))
+    ranges = ((0, 41_316), (6, 69_807), (1, 1_000_001), (14, -1_000_001), (15, 900_000_100), (3, -900_000_100))
+    tai_and_units = ((10, 100), (16, -1), (15, 50), (3, -412_345_601), (9, 587_654_299), (9, LEAST), (0, GREATEST))
+    yield (*ranges, *tai_and_units, (5, 0), (11, 0), (17, 0), (5, 2), (17, -1), (11, LEAST), (11, 2**32 + 1))
+
+
+def in_fives(records):
+    """So many records without their marks."""
+    return [number for i in range(records) for number in RECORDS[6 * (i % 3):6 * (i % 3) + 5]]
+
+
 def writes():
-    """Name; place and value of a change; numbers of the list; bytes of room."""
-    none, whole, most = (0, RECORDS[0]), len(RECORDS), 12_000
-    for room in (most, 558, 557, 0):
-        yield ("a room of %d bytes" % room, none, whole, room)
-    yield ("two records", none, 10, most)
-    for numbers in (0, 1, 5, 9, 11, 14):
-        yield ("a list of %d numbers" % numbers, none, numbers, most)
-    for change in ((10, 69_806), (0, 57_755), (6, -1_000_000), (2, 1), (3, 0), (3, -100), (13, -900_000_000), (4, 99)):
-        yield ("number %d is %d" % change, change, whole, most)
-    for change in ((0, 41_316), (5, 69_807), (1, 1_000_001), (12, -1_000_001), (13, 900_000_100), (3, -900_000_100),
-                   (9, 100), (14, -1), (13, 50), (3, -412_345_601), (8, 587_654_299), (8, LEAST), (0, GREATEST)):
-        yield from (("number %d is %d, room %d" % (*change, room), change, whole, room) for room in (most, 0))
+    """Name, numbers of the list, bytes of room."""
+    whole, most = len(RECORDS), 12_000
+    yield from (("a room of %d bytes" % room, RECORDS, room) for room in (most, 558, 557, 0))
+    yield from (("a list of %d numbers" % numbers, RECORDS[:numbers], most) for numbers in (12, 0, 1, 6, 11, 13, 17))
+    yield from (("%d records in fives" % count, in_fives(count), most) for count in (2, 3, 6, 12))
+    written, refused = changes()
+    for (place, value), rooms in (*((each, (most,)) for each in written), *((each, (most, 0)) for each in refused)):
+        days = [*RECORDS[:place], value, *RECORDS[place + 1:whole]]
+        yield from (("number %d is %d, room %d" % (place, value, room), days, room) for room in rooms)
 
 
 def rows_table():
     rows = []
-    for what, (at, value), numbers, room in writes():
-        days = [*RECORDS[:at], value, *RECORDS[at + 1:]][:numbers]
+    for what, days, room in writes():
         number, count, after = bulletin.rows_from_days(days, bytes(room))
-        rows.append((what, days, numbers, room, (number, count), after[:count]))
+        rows.append((what, days, len(days), room, (number, count), after[:count]))
     columns = "const int64_t *days; size_t day_numbers, room_bytes; int64_t want[2]; const char *rows;"
     yield ("rows", columns, rows)
 

@@ -4,7 +4,7 @@
 
 static void orientation_one(const struct orientation_row *row)
 {
-	lend_file(row->at, row->value, sizeof sound);
+	lend_file(row->kind, row->at, row->value);
 	struct fringe_earth r = fringe_orientation(file, file_bytes, row->day, row->ms);
 	int64_t got[] = {r.refusal, r.x, r.y, r.ut1_used, r.tick};
 	test(row->what);
@@ -14,7 +14,7 @@ static void orientation_one(const struct orientation_row *row)
 
 static void delay_one(const struct delay_row *row)
 {
-	lend_file(row->at, row->value, sizeof sound);
+	lend_file(row->kind, row->at, row->value);
 	test(row->what);
 	number(fringe_delay(file, file_bytes, row->station1, row->station2, row->source, row->day, row->ms), row->want);
 	file_stays();
@@ -23,7 +23,7 @@ static void delay_one(const struct delay_row *row)
 /* the samples of a pass: the answer, and what the room holds */
 static void samples_one(const struct sample_row *row)
 {
-	lend_file(row->at, row->value, sizeof sound);
+	lend_file(row->kind, row->at, row->value);
 	empty_room();
 	test(row->what);
 	number(fringe_samples(file, file_bytes, row->pass, room, row->room_numbers), row->want);

@@ -1,4 +1,4 @@
-/* Session files: each call with the sound file, and with each that is refused; the lent bytes stay. */
+/* Session files: each call with the two sound files, and with each that is refused; the lent bytes stay. */
 #include "test.h"
 #include "values.h"
 #include <string.h>
@@ -6,9 +6,9 @@
 static void check_file(const char *what, const int64_t *want)
 {
 	struct fringe_counts r = fringe_check(file, file_bytes);
-	int64_t got[] = {r.refusal, r.stations, r.sources, r.days, r.passes};
+	int64_t got[] = {r.refusal, r.stations, r.sources, r.days, r.passes, r.day_kind};
 	test(what);
-	same(got, want, 5);
+	same(got, want, 6);
 	file_stays();
 }
 
@@ -21,8 +21,7 @@ static void find_fault(const char *what, const int64_t *want)
 	file_stays();
 }
 
-/* puts the refusal and the fields of a record, by its kind and index, and says how many numbers these are */
-static size_t record_of(int64_t kind, uint64_t index, int64_t *got)
+size_t record_of(int64_t kind, uint64_t index, int64_t *got)
 {
 	if (kind == FRINGE_KIND_STATION) {
 		struct fringe_station r = fringe_station_at(file, file_bytes, index);
@@ -36,7 +35,7 @@ static size_t record_of(int64_t kind, uint64_t index, int64_t *got)
 	}
 	if (kind == FRINGE_KIND_DAY) {
 		struct fringe_day r = fringe_day_at(file, file_bytes, index);
-		memcpy(got, (int64_t[]){r.refusal, r.mjd, r.x, r.y, r.ut1_utc, r.tai_utc}, 48);
+		memcpy(got, (int64_t[]){r.refusal, r.mjd, r.x, r.y, r.ut1_utc, r.tai_utc, r.mark}, 56);
 		return 1 + FRINGE_DAY_NUMBERS;
 	}
 	struct fringe_pass r = fringe_pass_at(file, file_bytes, index);
@@ -54,23 +53,30 @@ static void no_record(const char *what, int64_t kind, uint64_t index, int64_t re
 	file_stays();
 }
 
-/* every record of the sound file, as its numbers stand there, and 5 beyond the last of each section */
-static void accepted(void)
+/* the record at an index, held to its numbers in the file; where these end. A day of kind 3 has the mark 0. */
+static const int64_t *record_is(int64_t kind, int64_t day_kind, uint64_t index, const int64_t *fields)
 {
-	const int64_t *want = counts_rows[0].want, *fields = sound + FRINGE_CONTENTS_BYTES / 8;
-	lend_file(0, sound[0], sizeof sound);
-	check_file("check of the sound file", want);
-	find_fault("fault of the sound file", (int64_t[]){0, 0, 0, 0});
+	int64_t got[9];
+	size_t n = record_of(kind, index, got) - 1;
+	test("a record of the sound file");
+	one(got[0], FRINGE_ANSWERED);
+	if (kind == FRINGE_KIND_DAY && day_kind == FRINGE_KIND_DAY)
+		one(got[n--], 0);
+	same(got + 1, fields, n);
+	file_stays();
+	return fields + n;
+}
+
+/* every record of a sound file, as its numbers stand there, and 5 beyond the last of each section */
+static void accepted(const struct counts_row *row)
+{
+	const int64_t *want = row->want, *fields = sound(row->kind) + FRINGE_CONTENTS_BYTES / 8;
+	lend_sound(row->kind);
+	check_file(row->what, want);
+	find_fault(row->what, (int64_t[]){0, 0, 0, 0});
 	for (int64_t kind = 1; kind <= 4; kind++) {
-		for (uint64_t i = 0; i < (uint64_t)want[kind]; i++) {
-			int64_t got[9];
-			size_t n = record_of(kind, i, got);
-			test("a record of the sound file");
-			one(got[0], FRINGE_ANSWERED);
-			same(got + 1, fields, n - 1);
-			file_stays();
-			fields += n - 1;
-		}
+		for (uint64_t i = 0; i < (uint64_t)want[kind]; i++)
+			fields = record_is(kind, row->kind, i, fields);
 		no_record("one beyond the last record", kind, (uint64_t)want[kind], FRINGE_NOT_THERE);
 		no_record("the greatest index", kind, UINT64_MAX, FRINGE_NOT_THERE);
 	}
@@ -78,8 +84,8 @@ static void accepted(void)
 
 static void refused(const struct refused_row *row)
 {
-	int64_t zeros[5] = {row->want[0]};
-	lend_file(row->at, row->value, row->bytes);
+	int64_t zeros[6] = {row->want[0]};
+	lend_cut(row->kind, row->at, row->value, row->bytes);
 	check_file(row->what, zeros);
 	find_fault(row->what, row->want);
 	for (int64_t kind = 1; kind <= 4; kind++) {
@@ -90,7 +96,8 @@ static void refused(const struct refused_row *row)
 
 void files(void)
 {
-	accepted();
+	for EACH (counts, row)
+		accepted(row);
 	for EACH (refused, row)
 		refused(row);
 }

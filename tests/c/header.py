@@ -28,7 +28,8 @@ int main(void)
 	struct fringe_number made = fringe_track(fringe_no_numbers(), 0, 0, fringe_no_numbers(), 0);
 	struct fringe_counts counts = fringe_check(fringe_no_bytes(), 0);
 	printf("%s, %s\\n", fringe_refusal_text(made.refusal), fringe_refusal_text(counts.refusal));
-	printf("%s, %s, %s\\n", fringe_section_name(FRINGE_KIND_DAY), fringe_field_name(FRINGE_KIND_DAY, 3), FRINGE_VERSION);
+	printf("%s, %s, %s\\n", fringe_section_name(FRINGE_KIND_MARKED_DAY), fringe_field_name(FRINGE_KIND_MARKED_DAY, 5),
+	       FRINGE_VERSION);
 	return FRINGE_VERSION_NUMBER > 65535;
 }
 """
@@ -69,7 +70,7 @@ def compiles(tally, folder):
     for path, text in ((alone, ALONE), (used, USED)):
         with open(path, "w", encoding="utf-8") as file:
             file.write(text)
-    wanted = "%s, %s\ndays, UT1-UTC, %s\n" % (texts[2], texts[1], VERSION)
+    wanted = "%s, %s\ndays, mark, %s\n" % (texts[2], texts[1], VERSION)
     for standard in STANDARDS:
         got = compiled(standard, alone, [*INCLUDE, "-c", "-o", os.devnull])
         tally.equal("the header alone as " + standard, got, (0, ""))

@@ -41,7 +41,7 @@ static int64_t lists[4][MOST_NUMBERS];
 static const size_t width[] = {FRINGE_STATION_NUMBERS, FRINGE_SOURCE_NUMBERS, FRINGE_DAY_NUMBERS, FRINGE_PASS_NUMBERS};
 static const size_t most[] = {FRINGE_MOST_STATIONS, FRINGE_MOST_SOURCES, FRINGE_MOST_DAYS, FRINGE_MOST_PASSES};
 
-/* a right value of a field: ids rise, days follow each other, and 1 is right everywhere else */
+/* a right value of a field: ids rise, days follow each other, and 1 is right everywhere else, as a mark, too */
 static int64_t field_of(size_t list, size_t record, size_t field)
 {
 	if (list == 2 && field == 0)
@@ -61,12 +61,38 @@ static void fill_lists(void)
 
 static uint8_t written[FRINGE_RIGHT_FILE_BYTES];
 
-static void write_counts(const char *what, const size_t *count, size_t room_bytes, int64_t refusal, int64_t wrote)
+static void write_as(const char *what, int64_t day_kind, const size_t *count, size_t room_bytes, int64_t refusal,
+		     int64_t wrote)
 {
 	test(what);
-	number(fringe_write(lists[0], count[0] * width[0], lists[1], count[1] * width[1], lists[2], count[2] * width[2],
-			    lists[3], count[3] * width[3], written, room_bytes),
+	number(fringe_write(day_kind, lists[0], count[0] * width[0], lists[1], count[1] * width[1], lists[2],
+			    count[2] * width[2], lists[3], count[3] * width[3], written, room_bytes),
 	       (int64_t[]){refusal, wrote});
+}
+
+static void write_counts(const char *what, const size_t *count, size_t room_bytes, int64_t refusal, int64_t wrote)
+{
+	write_as(what, FRINGE_KIND_MARKED_DAY, count, room_bytes, refusal, wrote);
+}
+
+/* the longest file of kind 3 is shorter by its marks, which are 0 */
+static void of_unmarked_files(void)
+{
+	const size_t bytes = FRINGE_RIGHT_FILE_BYTES - 8 * FRINGE_MOST_DAYS;
+	size_t one_more[4], fewest[] = {1, 1, FRINGE_LEAST_DAYS - 1, 1};
+	fill_lists();
+	write_as("marks of 1 as kind 3", FRINGE_KIND_DAY, most, bytes, FRINGE_OUT_OF_RANGE, 0);
+	for (size_t i = 0; i <= FRINGE_MOST_DAYS; i++)
+		lists[2][width[2] * i + width[2] - 1] = 0;
+	write_as("the longest file of kind 3", FRINGE_KIND_DAY, most, bytes, FRINGE_ANSWERED, (int64_t)bytes);
+	test("the longest file of kind 3 is right");
+	one(fringe_check(written, bytes).refusal, FRINGE_ANSWERED);
+	write_as("a byte less room, kind 3", FRINGE_KIND_DAY, most, bytes - 1, FRINGE_ROOM_TOO_SHORT, 0);
+	memcpy(one_more, most, sizeof most);
+	one_more[2]++;
+	write_as("a day more, kind 3", FRINGE_KIND_DAY, one_more, bytes, FRINGE_WRONG_FILE, 0);
+	write_as("too few days, kind 3", FRINGE_KIND_DAY, fewest, bytes, FRINGE_WRONG_FILE, 0);
+	write_as("a day more, no kind of days", FRINGE_KIND_PASS, one_more, bytes, FRINGE_OUT_OF_RANGE, 0);
 }
 
 static void of_files(void)
@@ -86,7 +112,7 @@ static void of_files(void)
 	write_counts("the fewest records", fewest, sizeof written, FRINGE_ANSWERED, (int64_t)least_bytes);
 	fewest[2]--;
 	write_counts("a day less", fewest, sizeof written, FRINGE_WRONG_FILE, 0);
-	lend_file(0, sound[0], sizeof sound);
+	lend_sound(FRINGE_KIND_MARKED_DAY);
 	test("a contents table that is a byte short");
 	one(fringe_fault(file, FRINGE_CONTENTS_BYTES - 1).field, 12);
 	test("a contents table and no more");
@@ -190,6 +216,7 @@ void limits(void)
 {
 	of_tracks();
 	of_files();
+	of_unmarked_files();
 	of_sessions();
 	of_rows();
 	epoch("the first day", FRINGE_FIRST_MJD, 0, FRINGE_ANSWERED);

@@ -64,12 +64,33 @@ void lend_bytes(const void *from, size_t length)
 	file_bytes = length;
 }
 
-void lend_file(size_t at, int64_t value, size_t length)
+const int64_t *sound(int64_t kind)
+{
+	return kind == FRINGE_KIND_DAY ? sound_3 : sound_5;
+}
+
+size_t sound_bytes(int64_t kind)
+{
+	return kind == FRINGE_KIND_DAY ? sizeof sound_3 : sizeof sound_5;
+}
+
+void lend_cut(int64_t kind, size_t at, int64_t value, size_t length)
 {
 	static uint8_t whole[MOST_BYTES];
-	memcpy(whole, sound, sizeof sound);
+	memset(whole, 0, sizeof whole);
+	memcpy(whole, sound(kind), sound_bytes(kind));
 	memcpy(whole + 8 * at, &value, 8);
 	lend_bytes(whole, length);
+}
+
+void lend_file(int64_t kind, size_t at, int64_t value)
+{
+	lend_cut(kind, at, value, sound_bytes(kind));
+}
+
+void lend_sound(int64_t kind)
+{
+	lend_bytes(sound(kind), sound_bytes(kind));
 }
 
 void file_stays(void)

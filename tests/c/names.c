@@ -42,7 +42,7 @@ void empties(void)
 {
 	const uint8_t *no_file = fringe_no_bytes();
 	int64_t *none = fringe_no_numbers();
-	lend_file(0, sound[0], sizeof sound);
+	lend_sound(FRINGE_KIND_MARKED_DAY);
 	test("an empty file");
 	one(fringe_check(no_file, 0).refusal, FRINGE_WRONG_FILE);
 	test("its fault");
@@ -64,7 +64,8 @@ void empties(void)
 	test("no room for samples");
 	one(fringe_samples(file, file_bytes, 0, none, 0).refusal, FRINGE_ROOM_TOO_SHORT);
 	test("no records, and no room");
-	one(fringe_write(none, 0, none, 0, none, 0, none, 0, fringe_no_bytes(), 0).refusal, FRINGE_WRONG_FILE);
+	one(fringe_write(FRINGE_KIND_DAY, none, 0, none, 0, none, 0, none, 0, fringe_no_bytes(), 0).refusal,
+	    FRINGE_WRONG_FILE);
 	test("no rows, and no TAI-UTC");
 	one(fringe_days_from_rows(no_file, 0, FRINGE_FIRST_MJD, 2, none, 0).refusal, FRINGE_ROW_LACKING);
 	test("no days asked of no rows");
@@ -77,7 +78,7 @@ void empties(void)
 	test("no samples, and no room");
 	one(fringe_track(none, 0, 0, none, 0).refusal, FRINGE_OUT_OF_RANGE);
 	test("no room for a track");
-	one(fringe_track(sound, 1, 0, none, 0).refusal, FRINGE_NO_TRACK_FITS);
+	one(fringe_track(sound_5, 1, 0, none, 0).refusal, FRINGE_NO_TRACK_FITS);
 	test("the tracks of an empty file, and no room");
 	one(fringe_all_tracks(no_file, 0, none, 0).refusal, FRINGE_WRONG_FILE);
 	test("no room for all tracks");

@@ -3,7 +3,7 @@
 A table is its name, its columns in C, and its rows; a row begins with the name of its test.
 """
 
-from c import bulletinrows, filerows, names
+from c import bulletinrows, filerows, names, writerows
 from c.cells import Name
 from reference import earth, sine, track
 
@@ -97,6 +97,5 @@ def predict_table():
 def tables():
     for made in (tick_tables, epoch_tables, track_table, predict_table):
         yield from made()
-    yield from filerows.tables()
-    yield from bulletinrows.tables()
-    yield from names.tables()
+    for module in (filerows, writerows, bulletinrows, names):
+        yield from module.tables()

@@ -16,15 +16,27 @@ void one(int64_t got, int64_t want);
 void number(struct fringe_number r, const int64_t *want);
 void same_bytes(const void *got, const void *want, size_t n);
 
+/* The two sound files, by the kind of their days, 3 or 5: their numbers, and their bytes. */
+const int64_t *sound(int64_t kind);
+size_t sound_bytes(int64_t kind);
+
 /*
- * The lent session file, between guard bytes: the sound one with a number changed, cut off or lengthened by zeros to
- * `length`. `lend_bytes` lends any bytes there. `file_stays` is a check that neither they nor a guard have changed since.
+ * The lent session file, between guard bytes: a sound one as it is, one with a number changed, such a one cut off or
+ * lengthened by zeros to `length`, or any bytes. `file_stays` is a check that neither they nor a guard have changed since.
  */
 extern uint8_t *file;
 extern size_t file_bytes;
-void lend_file(size_t at, int64_t value, size_t length);
+void lend_sound(int64_t kind);
+void lend_file(int64_t kind, size_t at, int64_t value);
+void lend_cut(int64_t kind, size_t at, int64_t value, size_t length);
 void lend_bytes(const void *from, size_t length);
 void file_stays(void);
+
+/*
+ * Puts the refusal and the fields of a record of the lent file, by its kind (3 for days of either kind) and its index,
+ * and says how many numbers these are.
+ */
+size_t record_of(int64_t kind, uint64_t index, int64_t *got);
 
 /* Numbers that are lent to be read, between guards, and a check that they stay. */
 extern int64_t *lent;

@@ -16,7 +16,7 @@ static void track_one(const struct track_row *row)
 /* the tracks of all passes: each count, also beyond the last pass, and what the room holds */
 static void all_one(const struct all_tracks_row *row)
 {
-	lend_file(row->at, row->value, sizeof sound);
+	lend_file(row->kind, row->at, row->value);
 	empty_room();
 	struct fringe_tracks r = fringe_all_tracks(file, file_bytes, room, row->room_numbers);
 	test(row->what);

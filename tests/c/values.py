@@ -16,11 +16,16 @@ HEAD = """/* Made by tests/remake from the reference: do not edit. A row is one 
 """
 
 
+def sound_text(kind):
+    """The sound file with days of a kind."""
+    numbers = filerows.SOUND[kind]
+    return wrapped("static const int64_t sound_%d[%d] = {%s};" % (kind, len(numbers), ", ".join(map(number, numbers))))
+
+
 def text():
     cells = Cells()
     tables = [cells.table(*table) for table in rows.tables()]
-    sound = "static const int64_t sound[%d] = {%s};" % (len(filerows.SOUND), ", ".join(map(number, filerows.SOUND)))
-    return "\n".join([HEAD, wrapped(sound), cells.lists_text(), *tables, "#endif\n"])
+    return "\n".join([HEAD, *map(sound_text, filerows.KINDS), cells.lists_text(), *tables, "#endif\n"])
 
 
 def files():
