@@ -1,9 +1,10 @@
 /*
  * What a correlator's host does with a session file: examples/run-host builds and runs it on the sample session. It
  * prints the first pass's samples and its track, the prediction at its middle sample, the first segment of every pass
- * from all tracks in one call, the session's days as rows of finals2000A, and where the fault of a damaged copy lies. A
- * file that cannot be read, or is refused, or has a pass that is refused, ends it with a status that is not 0; of a
- * refused file it prints where the fault lies.
+ * from all tracks in one call, the session's days as rows of finals2000A, whether the session written with days of
+ * these rows is the same, and where the fault of a damaged copy lies. Rows hold full UT1: of a session whose days are
+ * not all marked 1 there are none, which it says. A file that cannot be read, or is refused, or has a pass that is
+ * refused, ends it with a status that is not 0; of a refused file it prints where the fault lies.
  */
 #include <erlensieg.h>
 #include <errno.h>
@@ -104,35 +105,71 @@ static int print_tracks(size_t bytes, int64_t passes)
 	return 1;
 }
 
-/* the days of the session as numbers, with the tide put back into UT1-UTC: rows hold full UT1 */
-static void published_days(size_t bytes, int64_t count, int64_t *days, int64_t *tai_utc)
+/* the records of the session as lists of numbers, as fringe_write takes them */
+static int64_t stations[FRINGE_STATION_NUMBERS * FRINGE_MOST_STATIONS];
+static int64_t sources[FRINGE_SOURCE_NUMBERS * FRINGE_MOST_SOURCES];
+static int64_t days[FRINGE_MOST_DAYS_NUMBERS], tai_utc[FRINGE_MOST_DAYS];
+static int64_t passes[FRINGE_PASS_NUMBERS * FRINGE_MOST_PASSES];
+
+static void list_days(size_t bytes, size_t count)
 {
-	for (int64_t i = 0; i < count; i++) {
-		struct fringe_day day = fringe_day_at(file, bytes, (size_t)i);
-		int64_t *numbers = days + FRINGE_DAY_NUMBERS * i;
-		numbers[0] = day.mjd;
-		numbers[1] = day.x;
-		numbers[2] = day.y;
-		numbers[3] = day.ut1_utc + fringe_tide(day.mjd, 0, day.tai_utc).value;
-		numbers[4] = tai_utc[i] = day.tai_utc;
+	for (size_t i = 0; i < count; i++) {
+		struct fringe_day r = fringe_day_at(file, bytes, i);
+		const int64_t numbers[] = {r.mjd, r.x, r.y, r.ut1_utc, r.tai_utc, r.mark};
+		memcpy(days + FRINGE_DAY_NUMBERS * i, numbers, sizeof numbers);
+		tai_utc[i] = r.tai_utc;
 	}
 }
 
-/* the days as rows, as far as columns are used, and whether they are read back as the same numbers */
-static void print_rows(size_t bytes, int64_t count)
+static void list_others(size_t bytes, struct fringe_counts counts)
 {
-	static int64_t days[FRINGE_MOST_DAYS_NUMBERS], tai_utc[FRINGE_MOST_DAYS];
+	for (size_t i = 0; i < (size_t)counts.stations; i++) {
+		struct fringe_station r = fringe_station_at(file, bytes, i);
+		const int64_t numbers[] = {r.id, r.x, r.y, r.z};
+		memcpy(stations + FRINGE_STATION_NUMBERS * i, numbers, sizeof numbers);
+	}
+	for (size_t i = 0; i < (size_t)counts.sources; i++) {
+		struct fringe_source r = fringe_source_at(file, bytes, i);
+		const int64_t numbers[] = {r.id, r.right_ascension, r.declination};
+		memcpy(sources + FRINGE_SOURCE_NUMBERS * i, numbers, sizeof numbers);
+	}
+	for (size_t i = 0; i < (size_t)counts.passes; i++) {
+		struct fringe_pass r = fringe_pass_at(file, bytes, i);
+		const int64_t numbers[] = {r.station1, r.station2, r.source, r.mjd, r.ms, r.step, r.samples, r.tolerance};
+		memcpy(passes + FRINGE_PASS_NUMBERS * i, numbers, sizeof numbers);
+	}
+}
+
+/* the session written anew, with days that were read of rows: they go into its file as they are */
+static void write_anew(size_t bytes, struct fringe_counts counts, const int64_t *read)
+{
+	list_others(bytes, counts);
+	struct fringe_number made = fringe_write(
+		FRINGE_KIND_MARKED_DAY, stations, FRINGE_STATION_NUMBERS * (size_t)counts.stations,
+		sources, FRINGE_SOURCE_NUMBERS * (size_t)counts.sources, read, FRINGE_DAY_NUMBERS * (size_t)counts.days,
+		passes, FRINGE_PASS_NUMBERS * (size_t)counts.passes, copy, sizeof copy);
+	if (refused("session with days of rows", made.refusal))
+		return;
+	int same = (size_t)made.value == bytes && memcmp(copy, file, bytes) == 0;
+	printf("session with days of rows: %" PRId64 " bytes, %s file\n", made.value, same ? "the same" : "another");
+}
+
+/* the days as rows, as far as columns are used, and what is read back of them */
+static void print_rows(size_t bytes, struct fringe_counts counts)
+{
 	static uint8_t rows[FRINGE_MOST_ROWS_BYTES];
-	published_days(bytes, count, days, tai_utc);
-	struct fringe_number made = fringe_rows_from_days(days, FRINGE_DAY_NUMBERS * (size_t)count, rows, sizeof rows);
+	size_t count = (size_t)counts.days;
+	list_days(bytes, count);
+	struct fringe_number made = fringe_rows_from_days(days, FRINGE_DAY_NUMBERS * count, rows, sizeof rows);
 	if (refused("rows of the days", made.refusal))
 		return;
-	for (int64_t i = 0; i < count; i++)
+	for (size_t i = 0; i < count; i++)
 		printf("row%.68s\n", (const char *)rows + FRINGE_ROW_BYTES * i);
-	struct fringe_days read =
-		fringe_days_from_rows(rows, (size_t)made.value, days[0], count, tai_utc, (size_t)count);
-	if (!refused("days of the rows", read.refusal))
-		printf("read back: %s days\n", memcmp(read.days, days, sizeof days) ? "other" : "the same");
+	struct fringe_days read = fringe_days_from_rows(rows, (size_t)made.value, days[0], counts.days, tai_utc, count);
+	if (refused("days of the rows", read.refusal))
+		return;
+	printf("read back: %s days\n", memcmp(read.days, days, sizeof days) ? "other" : "the same");
+	write_anew(bytes, counts, read.days);
 }
 
 /* where the fault of a copy lies whose first station has no id */
@@ -158,14 +195,14 @@ int main(int count, char **words)
 		print_fault("session", file, bytes);
 		return 1;
 	}
-	printf("%" PRId64 " stations, %" PRId64 " sources, %" PRId64 " days, %" PRId64 " passes\n", counts.stations,
-	       counts.sources, counts.days, counts.passes);
+	printf("%" PRId64 " stations, %" PRId64 " sources, %" PRId64 " days of kind %" PRId64 ", %" PRId64 " passes\n",
+	       counts.stations, counts.sources, counts.days, counts.day_kind, counts.passes);
 
 	size_t taken = print_samples(bytes);
 	size_t numbers = taken ? print_track(bytes, taken) : 0;
 	if (!numbers || !print_prediction(numbers, taken / 2) || !print_tracks(bytes, counts.passes))
 		return 1;
-	print_rows(bytes, counts.days);
+	print_rows(bytes, counts);
 	damage(bytes);
 	return 0;
 }

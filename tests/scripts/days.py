@@ -52,7 +52,7 @@ def misused(tally):
 def told(tally):
     """What it says of itself."""
     status, printed, said = ran("--help")
-    named = (rowwords.USAGE, "--version", "Status: 0", "docs/SESSION-FILE.md", "full UT1")
+    named = (rowwords.USAGE, "--version", "Status: 0", "docs/SESSION-FILE.md", "full UT1", "kind 5")
     whole = all(word in printed.decode() for word in named)
     tally.check("./days --help", (status, said) == (0, "") and whole, "%.300r" % printed)
     tracks = subprocess.run([os.path.join(ROOT, "tracks"), "--version"], stdout=subprocess.PIPE, check=True).stdout

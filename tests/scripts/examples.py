@@ -5,9 +5,9 @@ import tempfile
 
 from c import header
 from c.compiler import RUNNER, compiled
-from c.names import words
+from c.names import kinds
 from rattle import ROOT
-from reference import bulletin, delay, earth, session, together, track
+from reference import bulletin, delay, session, together, track
 from scripts.ran import SESSION, contents, ran, refuses, unreadable, without_rt
 
 INSTALL = os.path.join(ROOT, "examples", "install")
@@ -19,8 +19,8 @@ def fault_lines(name, file):
     lines = ["%s: refused %d: %s" % (name, number, header.refusal_texts()[number])]
     if number == 1:
         return [*lines, "see number %d of the contents table, where 13 is the file's length" % field]
-    names = (words.SECTIONS[kind - 1], words.FIELDS[kind - 1][field])
-    return [*lines, "see section %d (%s), record %d, field %d (%s)" % (kind, names[0], record, field, names[1])]
+    section, fields = {kind: names for kind, *names in kinds()}[kind]
+    return [*lines, "see section %d (%s), record %d, field %d (%s)" % (kind, section, record, field, fields[field])]
 
 
 def text(lines):
@@ -37,13 +37,13 @@ def tracks_lines(file):
 
 
 def rows_lines(file):
-    """What examples/host.c prints of the days as rows, which hold UT1 with the tide."""
-    numbers = []
-    for mjd, x, y, ut1, tai in session.sections_of(file)[delay.DAYS]:
-        numbers += [mjd, x, y, ut1 + earth.tide(mjd, 0, tai)[1], tai]
-    rows = bulletin.rows_of(bulletin.text_of(numbers))
-    yield from ("row" + row[:68].decode() for row in rows)
-    yield "read back: the same days"
+    """What examples/host.c prints of the days as rows, and of the session with days of these rows."""
+    numbers = [number for day in session.sections_of(file)[delay.DAYS] for number in day]
+    if bulletin.unwritable(numbers):
+        yield "rows of the days: refused 2: %s" % header.refusal_texts()[2]
+        return
+    yield from ("row" + row[:68].decode() for row in bulletin.rows_of(bulletin.text_of(numbers)))
+    yield from ("read back: the same days", "session with days of rows: %d bytes, the same file" % len(file))
 
 
 def example_prints(file):
@@ -54,7 +54,8 @@ def example_prints(file):
     segments = track.track_of(samples, planned[7])
     numbers, middle = [number for segment in segments for number in segment], len(samples) // 2
     ps, record = track.predict(numbers, middle)[1], track.host_at(numbers, middle)[1:]
-    lines = ["%d stations, %d sources, %d days, %d passes" % session.check(file)[1:]]
+    stations, sources, days, passes, kind = session.check(file)[1:]
+    lines = ["%d stations, %d sources, %d days of kind %d, %d passes" % (stations, sources, days, kind, passes)]
     lines += ["sample %d: %d ps" % numbered for numbered in enumerate(samples)]
     lines += ["%d samples, tolerance %d ps: %d segments" % (len(samples), planned[7], len(segments))]
     lines += ["segment %d %d %d %d" % segment for segment in segments]
@@ -67,11 +68,19 @@ def run_host(tally):
     """The example by its script: the program's status is the script's."""
     file, command = contents(SESSION), os.path.join(ROOT, "examples", "run-host")
     tally.equal("examples/run-host", ran([command]), (0, example_prints(file), ""))
+    unmarked = session.encode(session.sections_of(file), 3)
+    others = [("a session without marks", unmarked, (0, example_prints(unmarked), ""))]
+    mark = session.word(file, 64) + 40
+    for name, damaged in (
+        ("a damaged file", file[:-8] + b"\xff" * 8),
+        ("a file that is cut off", file[:-8]),
+        ("a file with a wrong mark", file[:mark] + b"\2" + file[mark + 1:]),
+    ):
+        others.append((name, damaged, (1, text(fault_lines("session", damaged)), "")))
     with tempfile.TemporaryDirectory() as folder:
-        for name, damaged in (("a damaged file", file[:-8] + b"\xff" * 8), ("a file that is cut off", file[:-8])):
-            with open(os.path.join(folder, "lent"), "wb") as lent:
-                lent.write(damaged)
-            wanted = (1, text(fault_lines("session", damaged)), "")
+        for name, lent, wanted in others:
+            with open(os.path.join(folder, "lent"), "wb") as put:
+                put.write(lent)
             tally.equal("examples/run-host of " + name, ran([command, "lent"], folder=folder), wanted)
     unreadable(tally, "examples/run-host")
 
