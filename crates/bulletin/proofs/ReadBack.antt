@@ -32,27 +32,28 @@ use Rattle.bulletin.proofs.ListingLaws.{map-at}
 use Rattle.bulletin.proofs.RowRead.{row-reads}
 use Rattle.bulletin.proofs.RowText.{row-long}
 use Rattle.bulletin.proofs.RowsAnswer.{accepted, not-refused, rows-right}
-use Rattle.bulletin.proofs.Standing.{stands-in, stands-ranges, right-long, right-count, right-stands}
+use Rattle.bulletin.proofs.Standing.{stands-in, stands-ranges, stands-marked, right-long, right-count, right-stands}
 use Rattle.bulletin.proofs.TextRead.{ones-long, ones-at, text-is-read, first-at}
 
 -- ---- the numbers of the records are the list
 
-five : (xs : List ℤ) → 5 ≤ length xs → numbersOf (dayFrom xs) ≡ take 5 xs
+six : (xs : List ℤ) → 6 ≤ length xs → numbersOf (dayFrom xs) ≡ take 6 xs
 unfolding dayFrom
-five (a ∷ b ∷ c ∷ d ∷ e ∷ xs) h = refl
-five (a ∷ b ∷ c ∷ d ∷ []) h = absurd (omega (arith, h))
-five (a ∷ b ∷ c ∷ []) h = absurd (omega (arith, h))
-five (a ∷ b ∷ []) h = absurd (omega (arith, h))
-five (a ∷ []) h = absurd (omega (arith, h))
-five [] h = absurd (omega (arith, h))
+six (a ∷ b ∷ c ∷ d ∷ e ∷ f ∷ xs) h = refl
+six (a ∷ b ∷ c ∷ d ∷ e ∷ []) h = absurd (omega (arith, h))
+six (a ∷ b ∷ c ∷ d ∷ []) h = absurd (omega (arith, h))
+six (a ∷ b ∷ c ∷ []) h = absurd (omega (arith, h))
+six (a ∷ b ∷ []) h = absurd (omega (arith, h))
+six (a ∷ []) h = absurd (omega (arith, h))
+six [] h = absurd (omega (arith, h))
 
-numbers-are : (numbers : List ℤ) (n : ℕ) → 5 * n ≤ length numbers → joined n (λ (i : ℕ). numbersOf (recordAt numbers i)) ≡ take (5 * n) numbers
+numbers-are : (numbers : List ℤ) (n : ℕ) → 6 * n ≤ length numbers → joined n (λ (i : ℕ). numbersOf (recordAt numbers i)) ≡ take (6 * n) numbers
 unfolding joined
 numbers-are numbers zero h = refl
 numbers-are numbers (suc n) h =
-    let e : 5 * suc n ≡ 5 * n + 5 = omega arith in
-    ap₂ (λ (x y : List ℤ). x ++ y) (numbers-are numbers n (omega arith)) (five (drop (5 * n) numbers) (omega (arith, length-drop (5 * n) numbers)))
-    ∙ sym (ap (λ (k : ℕ). take k numbers) e ∙ take-add (5 * n) 5 numbers)
+    let e : 6 * suc n ≡ 6 * n + 6 = omega arith in
+    ap₂ (λ (x y : List ℤ). x ++ y) (numbers-are numbers n (omega arith)) (six (drop (6 * n) numbers) (omega (arith, length-drop (6 * n) numbers)))
+    ∙ sym (ap (λ (k : ℕ). take k numbers) e ∙ take-add (6 * n) 6 numbers)
 
 -- ---- the written text, row by row
 
@@ -114,6 +115,7 @@ module _ (numbers : List ℤ) (r : listRight numbers ≡ true) where
           y = (ap (valueIn yColumns) e ∙ h .y) j;
           «ut1_utc» = (ap (λ (row : List ℕ). pos 100 *ℤ valueIn ut1Columns row) e ∙ h .ut1) j;
           «tai_utc» = value-at n k (λ (i : ℕ). recordAt numbers i .«tai_utc») l j;
+          mark = sym (stands-marked (recordAt numbers k) (stands k l)) j;
         }
 
     -- ---- no refusal applies
@@ -151,7 +153,7 @@ module _ (numbers : List ℤ) (r : listRight numbers ≡ true) where
     unfolding daysNumber
     none = rw (le-leb (length text) 65536 (omega (arith, text-long, right-count numbers r .p-hi)), dated, filled, there, right)
 
-    same : records text first (pos n) tai ≡ numbers ++ replicate (320 - length numbers) (pos 0)
+    same : records text first (pos n) tai ≡ numbers ++ replicate (384 - length numbers) (pos 0)
     unfolding records
     same =
         let l = right-long numbers r in
@@ -160,7 +162,7 @@ module _ (numbers : List ℤ) (r : listRight numbers ≡ true) where
         ∙ numbers-are numbers n (omega (arith, l))
         ∙ ap (λ (k : ℕ). take k numbers) l
         ∙ take-length numbers)
-        (ap (λ (k : ℕ). replicate (320 - k) (pos 0)) l)
+        (ap (λ (k : ℕ). replicate (384 - k) (pos 0)) l)
 
 pub text-back : (numbers : List ℤ) → TextBack numbers
 unfolding daysOutcome

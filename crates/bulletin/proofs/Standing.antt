@@ -12,9 +12,10 @@ use Rattle.whole.specs.Whole.{posPart, negPart, ∣_∣, floorZ, modZ}
 use Rattle.whole.specs.Each.{allBelow}
 use Rattle.whole.proofs.Each.{below-each}
 use Rattle.whole.proofs.Linear.{and-true, abs-of, mul-posPart, mul-negPart}
+use Rattle.whole.proofs.Order.{eqZ-true}
 use Rattle.whole.proofs.Rounding.{floor-abs}
 use Rattle.fields.specs.declared.Day.{Day}
-use Rattle.fields.specs.Ranges.{inside, mjd, pole, ut1utc, taiutc, Holds}
+use Rattle.fields.specs.Ranges.{inside, mjd, pole, ut1utc, taiutc, mark, Holds}
 use Rattle.fields.specs.Records.{InDay}
 use Rattle.fields.proofs.Inside.{inside-holds}
 use Rattle.bulletin.specs.declared.layout.Columns.{Columns}
@@ -31,13 +32,15 @@ fields-in d e =
     let m = and-true (inside mjd (d .mjd)) _ e in
     let x = and-true (inside pole (d .x)) _ (m .1) in
     let y = and-true (inside pole (d .y)) _ (x .1) in
-    let u = and-true (inside ut1utc (d .«ut1_utc»)) (inside taiutc (d .«tai_utc»)) (y .1) in
+    let u = and-true (inside ut1utc (d .«ut1_utc»)) _ (y .1) in
+    let t = and-true (inside taiutc (d .«tai_utc»)) (inside mark (d .mark)) (u .1) in
     record {
       mjd = inside-holds mjd (d .mjd) (m .0);
       x = inside-holds pole (d .x) (x .0);
       y = inside-holds pole (d .y) (y .0);
       ut1-utc = inside-holds ut1utc (d .«ut1_utc») (u .0);
-      tai-utc = inside-holds taiutc (d .«tai_utc») (u .1);
+      tai-utc = inside-holds taiutc (d .«tai_utc») (t .0);
+      mark = inside-holds mark (d .mark) (t .1);
     }
 
 pub stands-ranges : (d : Day) → canStand d ≡ true → inRanges d ≡ true
@@ -49,19 +52,23 @@ stands-in d e = fields-in d (stands-ranges d e)
 
 pub stands-hundreds : (d : Day) → canStand d ≡ true → modZ (d .«ut1_utc») 100 ≡ 0
 unfolding canStand
-stands-hundreds d e = eqb-true _ _ (and-true (inRanges d) _ e .1)
+stands-hundreds d e = eqb-true _ _ (and-true (eqb (modZ (d .«ut1_utc») 100) 0) _ (and-true (inRanges d) _ e .1) .0)
+
+pub stands-marked : (d : Day) → canStand d ≡ true → d .mark ≡ pos 1
+unfolding canStand
+stands-marked d e = eqZ-true (d .mark) (pos 1) (and-true (eqb (modZ (d .«ut1_utc») 100) 0) _ (and-true (inRanges d) _ e .1) .1)
 
 -- ---- a list of records
 
 module _ (numbers : List ℤ) (e : listRight numbers ≡ true) where
-  counts : (eqb (5 * recordsIn numbers) (length numbers) ≡ true) × (inside dayCount (pos (recordsIn numbers)) && allBelow (recordsIn numbers) (λ (i : ℕ). canStand (recordAt numbers i)) ≡ true)
+  counts : (eqb (6 * recordsIn numbers) (length numbers) ≡ true) × (inside dayCount (pos (recordsIn numbers)) && allBelow (recordsIn numbers) (λ (i : ℕ). canStand (recordAt numbers i)) ≡ true)
   unfolding listRight
-  counts = and-true (eqb (5 * recordsIn numbers) (length numbers)) _ e
+  counts = and-true (eqb (6 * recordsIn numbers) (length numbers)) _ e
 
   stand : (inside dayCount (pos (recordsIn numbers)) ≡ true) × (allBelow (recordsIn numbers) (λ (i : ℕ). canStand (recordAt numbers i)) ≡ true)
   stand = and-true (inside dayCount (pos (recordsIn numbers))) _ (counts .1)
 
-  pub right-long : 5 * recordsIn numbers ≡ length numbers
+  pub right-long : 6 * recordsIn numbers ≡ length numbers
   right-long = eqb-true _ _ (counts .0)
 
   pub right-count : Holds dayCount (pos (recordsIn numbers))

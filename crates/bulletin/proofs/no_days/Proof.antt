@@ -15,7 +15,7 @@ number-requires c κs = search needs
 returns : tie.Need-returns
 returns c =
     let e : toZ w64 (ofZ w64 (c .number .result)) ≡ pos (c .before .args .n) = ret (c .number .result) (c .number .ok) ∙ c .number .ensures in
-    ap (λ (z : ℤ). record { refusal = z; days = replicate 320 (pos 0) }) e
+    ap (λ (z : ℤ). record { refusal = z; days = replicate 384 (pos 0) }) e
 
 pub no-days-spec : {M : Type 1} → statement M
 no-days-spec = tie.close (tie.spec number-requires returns)

@@ -39,7 +39,7 @@ unfolding listRight
 returns-2 c =
     let numbers = c .before .before .before .args .numbers .now in
     let all = allBelow (recordsIn numbers) (λ (i : ℕ). canStand (recordAt numbers i)) in
-    sym (and-no (eqb (5 * recordsIn numbers) (length numbers)) _ (no-and (inside dayCount (pos (recordsIn numbers))) all (failed (counted (c .before)) (c .if2 .taken))))
+    sym (and-no (eqb (6 * recordsIn numbers) (length numbers)) _ (no-and (inside dayCount (pos (recordsIn numbers))) all (failed (counted (c .before)) (c .if2 .taken))))
 
 all-can-stand-requires : tie.Need-all-can-stand-requires
 all-can-stand-requires c κs = search needs

@@ -60,22 +60,32 @@ mul-t20 c = search needs
 shared-slice-copy-out-t22 : tie.Need-shared-slice-copy-out-t22
 shared-slice-copy-out-t22 c = search needs
 
+add-t23 : tie.Need-add-t23
+add-t23 c = search needs
+
+mul-t24 : tie.Need-mul-t24
+mul-t24 c = search needs
+
+shared-slice-copy-out-t26 : tie.Need-shared-slice-copy-out-t26
+shared-slice-copy-out-t26 c = search needs
+
 -- number k of the record, which the code reads at place n
-number-is : (numbers : List ℤ) (i n k : ℕ) → mag (numberIn numbers n) < 2 ^ 63 → n ≡ 5 * i + k → toZ w64 (ofZ w64 (numberIn numbers n)) ≡ numberIn (drop (5 * i) numbers) k
-number-is numbers i n k f e = number-back numbers n (5 * i + k) f e ∙ sym (getD-drop (5 * i) numbers k (pos 0))
+number-is : (numbers : List ℤ) (i n k : ℕ) → mag (numberIn numbers n) < 2 ^ 63 → n ≡ 6 * i + k → toZ w64 (ofZ w64 (numberIn numbers n)) ≡ numberIn (drop (6 * i) numbers) k
+number-is numbers i n k f e = number-back numbers n (6 * i + k) f e ∙ sym (getD-drop (6 * i) numbers k (pos 0))
 
 returns : tie.Need-returns
 unfolding dayFrom
 returns c =
-    let s = c .before .before .before .before .before in
+    let s = c .before .before .before .before .before .before in
     let is = number-is (s .args .numbers .now) (s .args .i) in
     λ j.
     record {
-      mjd = is _ 0 (c .before .before .before .before .t6 .given) (omega arith) j;
-      x = is _ 1 (c .before .before .before .t10 .given) refl j;
-      y = is _ 2 (c .before .before .t14 .given) refl j;
-      «ut1_utc» = is _ 3 (c .before .t18 .given) refl j;
-      «tai_utc» = is _ 4 (c .t22 .given) refl j;
+      mjd = is _ 0 (c .before .before .before .before .before .t6 .given) (omega arith) j;
+      x = is _ 1 (c .before .before .before .before .t10 .given) refl j;
+      y = is _ 2 (c .before .before .before .t14 .given) refl j;
+      «ut1_utc» = is _ 3 (c .before .before .t18 .given) refl j;
+      «tai_utc» = is _ 4 (c .before .t22 .given) refl j;
+      mark = is _ 5 (c .t26 .given) refl j;
     }
 
 pub record-at-spec : {M : Type 1} → statement M
@@ -97,4 +107,7 @@ record-at-spec =
     add-t19
     mul-t20
     shared-slice-copy-out-t22
+    add-t23
+    mul-t24
+    shared-slice-copy-out-t26
     returns)

@@ -1,4 +1,4 @@
--- `bulletin::records::put_day` meets its contract: five stores, one behind the other. Assumes nothing.
+-- `bulletin::records::put_day` meets its contract: six stores, one behind the other. Assumes nothing.
 use borrow.Author.Needs.{needs}
 use mathlib.Core.Path.{_≡_}
 use Prim.Native.Nat.{suc, _+_, _*_}
@@ -53,23 +53,34 @@ mul-t c = search needs
 element-set-from-t : tie.Need-element-set-from-t
 element-set-from-t c = search needs
 
+add-w : tie.Need-add-w
+add-w c = search needs
+
+mul-w : tie.Need-mul-w
+mul-w c = search needs
+
+element-set-from-w : tie.Need-element-set-from-w
+element-set-from-w c = search needs
+
 returns : tie.Need-returns
 returns c =
-    let s = c .before .before .before .before .before in
+    let s = c .before .before .before .before .before .before in
     let xs = s .args .days .now in
-    let n = 5 * s .args .k in
+    let n = 6 * s .args .k in
     let d = s .args .d in
-    let g = c .struct-told5 .given in
+    let g = c .struct-told6 .given in
     let a : n + 1 ≡ suc n = omega arith in
     let b : n + 2 ≡ suc (suc n) = omega arith in
     let e : n + 3 ≡ suc (suc (suc n)) = omega arith in
     let f : n + 4 ≡ suc (suc (suc (suc n))) = omega arith in
+    let h : n + 5 ≡ suc (suc (suc (suc (suc n)))) = omega arith in
     let m = ret (d .mjd) (g .0 .1) in
     let x = ret (d .x) (g .1 .0 .1) in
     let y = ret (d .y) (g .1 .1 .0 .1) in
     let u = ret (d .«ut1_utc») (g .1 .1 .1 .0 .1) in
     let t = ret (d .«tai_utc») (g .1 .1 .1 .1 .0 .1) in
-    λ i. set (set (set (set (set xs n (m i)) (a i) (x i)) (b i) (y i)) (e i) (u i)) (f i) (t i)
+    let w = ret (d .mark) (g .1 .1 .1 .1 .1 .0 .1) in
+    λ i. set (set (set (set (set (set xs n (m i)) (a i) (x i)) (b i) (y i)) (e i) (u i)) (f i) (t i)) (h i) (w i)
 
 pub put-day-spec : {M : Type 1} → statement M
 put-day-spec =
@@ -90,4 +101,7 @@ put-day-spec =
     add-t
     mul-t
     element-set-from-t
+    add-w
+    mul-w
+    element-set-from-w
     returns)

@@ -87,7 +87,7 @@ returns c =
     let t = ret (y .result) (y .ok) ∙ y .ensures ∙ ap (valueIn yColumns) r in
     let u = ap (λ (z : ℤ). toZ w64 (ofZ w64 (pos 100 *ℤ z))) (ut1-is c) ∙ back (ut1-fits c) ∙ ap (λ (row : List ℕ). pos 100 *ℤ valueIn ut1Columns row) r in
     let v = back (s .fits .tai) in
-    λ i. record { mjd = p i; x = q i; y = t i; «ut1_utc» = u i; «tai_utc» = v i }
+    λ i. record { mjd = p i; x = q i; y = t i; «ut1_utc» = u i; «tai_utc» = v i; mark = pos 1 }
 
 pub record-of-spec : {M : Type 1} → statement M
 record-of-spec =

@@ -27,7 +27,7 @@ abbrev Inv-loop : tie.InvT-loop
 Inv-loop text dates starts first tai days₀ k₀ days k =
     (k ≤ length tai)
     × (allBelow k (λ (j : ℕ). inRanges (recordOf text (toZ w64 first) (pos (length tai)) tai j)) ≡ true)
-    × (days ≡ joined k (λ (j : ℕ). numbersOf (recordOf text (toZ w64 first) (pos (length tai)) tai j)) ++ replicate (320 - 5 * k) (pos 0))
+    × (days ≡ joined k (λ (j : ℕ). numbersOf (recordOf text (toZ w64 first) (pos (length tai)) tai j)) ++ replicate (384 - 6 * k) (pos 0))
 
 abbrev μ-loop : tie.MeasureT-loop
 μ-loop text dates starts first tai days₀ k₀ days k = length tai - k
@@ -38,7 +38,7 @@ module _ (text : List ℕ) (first : ℤ) (tai : List ℤ) where
   refuses e = rw e
 
   gives : allBelow (length tai) (λ (k : ℕ). inRanges (recordOf text first (pos (length tai)) tai k)) ≡ true
-      → givenRecords text first tai ≡ days (joined (length tai) (λ (k : ℕ). numbersOf (recordOf text first (pos (length tai)) tai k)) ++ replicate (320 - 5 * length tai) (pos 0))
+      → givenRecords text first tai ≡ days (joined (length tai) (λ (k : ℕ). numbersOf (recordOf text first (pos (length tai)) tai k)) ++ replicate (384 - 6 * length tai) (pos 0))
   unfolding givenRecords records
   gives e = rw e
 
@@ -113,7 +113,7 @@ loop-again c =
       omega (arith, h),
       below-next (l .k) _ (l .inv .1) (rw f (passed (judged (c .before .before .before)) (c .before .before .if1 .left))),
       c .put-day .ensures
-          ∙ ap₂ (λ (xs : List ℤ) (d : Day). sets xs (5 * l .k) (numbersOf d)) (l .inv .2) r
+          ∙ ap₂ (λ (xs : List ℤ) (d : Day). sets xs (6 * l .k) (numbersOf d)) (l .inv .2) r
           ∙ store-next (λ (j : ℕ). numbersOf (recordOf (s .args .text .now) (toZ w64 (ofZ w64 (s .args .first))) n (s .args .tai .now) j)) (λ i. refl) (l .k) (omega (arith, h, s .pre .1)),
     )
 
