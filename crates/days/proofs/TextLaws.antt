@@ -83,6 +83,6 @@ module _ (rows : List ℕ) (first count : ℤ) (tai : List ℤ) where
   unfolding daysText answerText
   refused-text e = rw e
 
-  pub answered-text : leZ (pos 1) (outcome .refusal) ≡ false → daysText rows first count tai ≡ rowLines 5 (outcome .days) (posPart count)
+  pub answered-text : leZ (pos 1) (outcome .refusal) ≡ false → daysText rows first count tai ≡ rowLines 6 (outcome .days) (posPart count)
   unfolding daysText answerText
   answered-text e = rw e

@@ -78,7 +78,7 @@ returns-2 c =
     let s = t .before .before .before .before in
     let g = c .before .before .put-days in
     let y : leZ (pos 1) (outcomeOf (t .before) .refusal) ≡ false = ap (leZ (pos 1)) (sym (refusal-is t)) ∙ e .if1 .left in
-    let w = ap₂ (rowLines 5) (ap (λ (r : Days). r .days) (outcome-is (t .before))) (ap posPart (back (s .fits .count))) ∙ sym (answered-text (s .args .rows .now) (s .args .first) (s .args .count) (s .args .tai .now) y) in
+    let w = ap₂ (rowLines 6) (ap (λ (r : Days). r .days) (outcome-is (t .before))) (ap posPart (back (s .fits .count))) ∙ sym (answered-text (s .args .rows .now) (s .args .first) (s .args .count) (s .args .tai .now) y) in
     (subst (λ (bs : List ℕ). Put (s .args .room .now) 0 bs (g .last .0) (g .result)) w (g .ensures), refusal-is t)
 
 pub days-text-spec : {M : Type 1} → statement M

@@ -31,7 +31,7 @@ returns : tie.Need-returns
 returns c =
     let s = c .before .before .before .before .before .before in
     let n = c .before .before .put-rows in
-    subst (λ (k : ℕ). Put (s .args .room .now) 0 (rowLines 5 (s .args .days .now) k) (n .last .0) (n .result)) (count-is (c .before .before .before)) (n .ensures .0)
+    subst (λ (k : ℕ). Put (s .args .room .now) 0 (rowLines 6 (s .args .days .now) k) (n .last .0) (n .result)) (count-is (c .before .before .before)) (n .ensures .0)
 
 pub put-days-spec : {M : Type 1} → statement M
 put-days-spec = tie.close (tie.spec size-requires put-rows-requires same-length returns)
