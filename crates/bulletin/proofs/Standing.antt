@@ -1,5 +1,5 @@
 -- What is proved of a record that can stand in a row: the ranges of its fields, and that its decimals are no wider than their columns. Assumes nothing.
-use mathlib.Core.Path.{_≡_}
+use mathlib.Core.Path.{_≡_, ap}
 use mathlib.Core.Bool.{true, _&&_}
 use mathlib.Core.List.{List}
 use Prim.Native.Nat.{ℕ, suc, _+_, _-_, _*_, _≤_, _<_}
@@ -10,6 +10,7 @@ use lib.ListN.{length}
 use lib.IntN.{ℤ, pos, _*ℤ_}
 use Rattle.whole.specs.Whole.{posPart, negPart, ∣_∣, floorZ, modZ}
 use Rattle.whole.specs.Each.{allBelow}
+use Rattle.whole.specs.Ranges.{eqZ}
 use Rattle.whole.proofs.Each.{below-each}
 use Rattle.whole.proofs.Linear.{and-true, abs-of, mul-posPart, mul-negPart}
 use Rattle.whole.proofs.Order.{eqZ-true}
@@ -25,38 +26,39 @@ use Rattle.bulletin.specs.Reading.{inRanges, dayCount}
 use Rattle.bulletin.specs.Writing.{recordsIn, recordAt, listRight, canStand}
 use Rattle.bulletin.proofs.Printing.{printed-most, printed-above}
 
--- the fields of a record, each in its range
-fields-in : (d : Day) → inRanges d ≡ true → InDay d
-unfolding inRanges
-fields-in d e =
-    let m = and-true (inside mjd (d .mjd)) _ e in
-    let x = and-true (inside pole (d .x)) _ (m .1) in
-    let y = and-true (inside pole (d .y)) _ (x .1) in
-    let u = and-true (inside ut1utc (d .«ut1_utc»)) _ (y .1) in
-    let t = and-true (inside taiutc (d .«tai_utc»)) (inside mark (d .mark)) (u .1) in
-    record {
-      mjd = inside-holds mjd (d .mjd) (m .0);
-      x = inside-holds pole (d .x) (x .0);
-      y = inside-holds pole (d .y) (y .0);
-      ut1-utc = inside-holds ut1utc (d .«ut1_utc») (u .0);
-      tai-utc = inside-holds taiutc (d .«tai_utc») (t .0);
-      mark = inside-holds mark (d .mark) (t .1);
-    }
+module _ (d : Day) (e : canStand d ≡ true) where
+  tests : (inRanges d ≡ true) × (eqb (modZ (d .«ut1_utc») 100) 0 && eqZ (d .mark) (pos 1) ≡ true)
+  unfolding canStand
+  tests = and-true (inRanges d) _ e
 
-pub stands-ranges : (d : Day) → canStand d ≡ true → inRanges d ≡ true
-unfolding canStand
-stands-ranges d e = and-true (inRanges d) _ e .0
+  others : (eqb (modZ (d .«ut1_utc») 100) 0 ≡ true) × (eqZ (d .mark) (pos 1) ≡ true)
+  others = and-true (eqb (modZ (d .«ut1_utc») 100) 0) _ (tests .1)
 
-pub stands-in : (d : Day) → canStand d ≡ true → InDay d
-stands-in d e = fields-in d (stands-ranges d e)
+  pub stands-ranges : inRanges d ≡ true
+  stands-ranges = tests .0
 
-pub stands-hundreds : (d : Day) → canStand d ≡ true → modZ (d .«ut1_utc») 100 ≡ 0
-unfolding canStand
-stands-hundreds d e = eqb-true _ _ (and-true (eqb (modZ (d .«ut1_utc») 100) 0) _ (and-true (inRanges d) _ e .1) .0)
+  pub stands-hundreds : modZ (d .«ut1_utc») 100 ≡ 0
+  stands-hundreds = eqb-true _ _ (others .0)
 
-pub stands-marked : (d : Day) → canStand d ≡ true → d .mark ≡ pos 1
-unfolding canStand
-stands-marked d e = eqZ-true (d .mark) (pos 1) (and-true (eqb (modZ (d .«ut1_utc») 100) 0) _ (and-true (inRanges d) _ e .1) .1)
+  pub stands-marked : d .mark ≡ pos 1
+  stands-marked = eqZ-true (d .mark) (pos 1) (others .1)
+
+  -- its fields, each in its range
+  pub stands-in : InDay d
+  unfolding inRanges
+  stands-in =
+      let m = and-true (inside mjd (d .mjd)) _ stands-ranges in
+      let x = and-true (inside pole (d .x)) _ (m .1) in
+      let y = and-true (inside pole (d .y)) _ (x .1) in
+      let u = and-true (inside ut1utc (d .«ut1_utc»)) (inside taiutc (d .«tai_utc»)) (y .1) in
+      record {
+        mjd = inside-holds mjd (d .mjd) (m .0);
+        x = inside-holds pole (d .x) (x .0);
+        y = inside-holds pole (d .y) (y .0);
+        ut1-utc = inside-holds ut1utc (d .«ut1_utc») (u .0);
+        tai-utc = inside-holds taiutc (d .«tai_utc») (u .1);
+        mark = inside-holds mark (d .mark) (ap (inside mark) stands-marked);
+      }
 
 -- ---- a list of records
 

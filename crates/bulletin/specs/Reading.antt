@@ -14,7 +14,7 @@ use Rattle.whole.specs.Refusals.{unless, firstOf}
 use Rattle.whole.specs.Answers.{given}
 use Rattle.fields.specs.declared.Day.{Day}
 use Rattle.fields.specs.declared.ranges.Range.{Range}
-use Rattle.fields.specs.Ranges.{range, inside, mjd, pole, ut1utc, taiutc, mark}
+use Rattle.fields.specs.Ranges.{range, inside, mjd, pole, ut1utc, taiutc}
 use Rattle.bulletin.specs.declared.Days.{Days}
 use Rattle.bulletin.specs.Columns.{xColumns, yColumns, ut1Columns, valueIn}
 use Rattle.bulletin.specs.Rows.{rowsOf, rowAt, hasDay, dayIn, isFilled, daysOf, firstIn}
@@ -23,9 +23,9 @@ use Rattle.bulletin.specs.Rows.{rowsOf, rowAt, hasDay, dayIn, isFilled, 
 abbrev pub dayCount : Range
 dayCount = range 2 64
 
--- each field of a record is in its range
+-- each field but the mark is in its range. A record that is read is marked 1, and one that is written must be (`canStand`).
 unfoldable pub inRanges : Day → Bool
-inRanges d = inside mjd (d .mjd) && (inside pole (d .x) && (inside pole (d .y) && (inside ut1utc (d .«ut1_utc») && (inside taiutc (d .«tai_utc») && inside mark (d .mark)))))
+inRanges d = inside mjd (d .mjd) && (inside pole (d .x) && (inside pole (d .y) && (inside ut1utc (d .«ut1_utc») && inside taiutc (d .«tai_utc»))))
 
 -- its numbers in the order of a session file
 abbrev pub numbersOf : Day → List ℤ
@@ -35,7 +35,8 @@ numbersOf d = d .mjd ∷ d .x ∷ d .y ∷ d .«ut1_utc» ∷ d .«tai_utc» ∷
 abbrev pub asked : ℤ → ℤ → ℤ → Bool
 asked first count d = leZ first d && ltZ d (first +ℤ count)
 
--- the record of day d, by the first row with that day: x and y in microarcseconds, UT1-UTC in nanoseconds; a bulletin gives full UT1, which document 02, L4, marks 1
+-- the record of day d, by the first row with that day: x and y in microarcseconds, UT1-UTC in nanoseconds. Rows hold full UT1, which document 02, L4,
+-- marks 1.
 unfoldable pub recordFor : List ℕ → ℤ → ℤ → Day
 recordFor text d tai =
     let row = rowAt text (firstIn (daysOf text) d) in

@@ -20,7 +20,6 @@ use crate::listing::row_at;
 use crate::no_days;
 use crate::taking::first_in;
 use fields::Day;
-use fields::ranges::MARK;
 use fields::ranges::MJD;
 use fields::ranges::POLE;
 use fields::ranges::Range;
@@ -33,7 +32,7 @@ use whole::sign::size;
 // How many days a list may have.
 pub const DAY_COUNT: Range = Range { low: 2, high: 64 };
 
-// Whether each field of a record is in its range.
+// Whether each field of a record but the mark is in its range.
 pub fn in_ranges(d: Day) -> bool
     ensures { λ r. ⌜ r ≡ inRanges d ⌝ }
 {
@@ -49,10 +48,7 @@ pub fn in_ranges(d: Day) -> bool
     if !inside(UT1_UTC, d.ut1_utc) {
         return false;
     }
-    if !inside(TAI_UTC, d.tai_utc) {
-        return false;
-    }
-    inside(MARK, d.mark)
+    inside(TAI_UTC, d.tai_utc)
 }
 
 // Whether the first day and the count are in their ranges, and each day has its TAI-UTC.

@@ -3,7 +3,7 @@ use borrow.Author.Needs.{needs}
 use mathlib.Core.Path.{_≡_, sym, _∙_}
 use Rattle.whole.proofs.Linear.{ret}
 use Rattle.whole.proofs.Tests.{passed, failed}
-use Rattle.fields.specs.Ranges.{inside, mjd, pole, ut1utc, taiutc}
+use Rattle.fields.specs.Ranges.{inside, mjd, pole, ut1utc}
 use Rattle.bulletin.specs.Reading.{inRanges}
 use Rattle.bulletin.proofs.records.in_ranges.Statement.{statement}
 use Rattle.bulletin.proofs.records.in_ranges.Tie as tie
@@ -19,9 +19,6 @@ y-is c = simp (ret (c .before .before .before .before .before .before .before .b
 
 ut1-is : (c : tie.After-inside4) → c .inside4 .result ≡ inside ut1utc (c .before .before .before .before .before .before .before .before .before .before .before .args .d .«ut1_utc»)
 ut1-is c = simp (ret (c .before .before .before .before .before .before .before .before .before .before .before .args .d .«ut1_utc») (c .before .struct-told4 .given .1 .1 .1 .0 .1)) at (c .inside4 .ensures)
-
-tai-is : (c : tie.After-inside5) → c .inside5 .result ≡ inside taiutc (c .before .before .before .before .before .before .before .before .before .before .before .before .before .before .args .d .«tai_utc»)
-tai-is c = simp (ret (c .before .before .before .before .before .before .before .before .before .before .before .before .before .before .args .d .«tai_utc») (c .before .struct-told5 .given .1 .1 .1 .1 .0 .1)) at (c .inside5 .ensures)
 
 inside-requires : tie.Need-inside-requires
 inside-requires c κs = search needs
@@ -69,27 +66,12 @@ returns-5 : tie.Need-returns-5
 unfolding inRanges
 returns-5 c =
     simp (
-      passed (mjd-is (c .before .before .before .before .before .before .before .before .before .before .before .before .before)) (c .before .before .before .before .before .before .before .before .before .before .before .before .if1 .left),
-      passed (x-is (c .before .before .before .before .before .before .before .before .before .before)) (c .before .before .before .before .before .before .before .before .before .if2 .left),
-      passed (y-is (c .before .before .before .before .before .before .before)) (c .before .before .before .before .before .before .if3 .left),
-      passed (ut1-is (c .before .before .before .before)) (c .before .before .before .if4 .left),
-      failed (tai-is (c .before)) (c .if5 .taken),
+      passed (mjd-is (c .before .before .before .before .before .before .before .before .before .before .before .before)) (c .before .before .before .before .before .before .before .before .before .before .before .if1 .left),
+      passed (x-is (c .before .before .before .before .before .before .before .before .before)) (c .before .before .before .before .before .before .before .before .if2 .left),
+      passed (y-is (c .before .before .before .before .before .before)) (c .before .before .before .before .before .if3 .left),
+      passed (ut1-is (c .before .before .before)) (c .before .before .if4 .left),
     )
-
-inside-requires-6 : tie.Need-inside-requires-6
-inside-requires-6 c κs = search needs
-
-returns-6 : tie.Need-returns-6
-unfolding inRanges
-returns-6 c =
-    simp (
-      passed (mjd-is (c .before .before .before .before .before .before .before .before .before .before .before .before .before .before .before)) (c .before .before .before .before .before .before .before .before .before .before .before .before .before .before .if1 .left),
-      passed (x-is (c .before .before .before .before .before .before .before .before .before .before .before .before)) (c .before .before .before .before .before .before .before .before .before .before .before .if2 .left),
-      passed (y-is (c .before .before .before .before .before .before .before .before .before)) (c .before .before .before .before .before .before .before .before .if3 .left),
-      passed (ut1-is (c .before .before .before .before .before .before)) (c .before .before .before .before .before .if4 .left),
-      passed (tai-is (c .before .before .before)) (c .before .before .if5 .left),
-    )
-    (simp (ret (c .before .before .before .before .before .before .before .before .before .before .before .before .before .before .before .before .before .args .d .mark) (c .before .struct-told6 .given .1 .1 .1 .1 .1 .0 .1)) at (c .inside6 .ensures))
+    (simp (ret (c .before .before .before .before .before .before .before .before .before .before .before .before .before .before .args .d .«tai_utc») (c .before .struct-told5 .given .1 .1 .1 .1 .0 .1)) at (c .inside5 .ensures))
 
 pub in-ranges-spec : {M : Type 1} → statement M
 in-ranges-spec =
@@ -104,6 +86,4 @@ in-ranges-spec =
     inside-requires-4
     returns-4
     inside-requires-5
-    returns-5
-    inside-requires-6
-    returns-6)
+    returns-5)
