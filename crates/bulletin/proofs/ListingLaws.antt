@@ -63,6 +63,9 @@ stands-same p q s = record { order = rw (p, q) (s .order); most = rw q (s .most)
 
 module _ {text : List ℕ} {at n : ℕ} {dates : List ℤ} {starts : List ℕ} (l : Listing text at n dates starts)
     (end : ℕ) (e : end ≡ at + length (firstLine (drop at text))) where
+  pub rows-few : length text ≤ 65536 → n ≤ 4096
+  rows-few t = omega (arith, l .few, l .inside, t)
+
   -- ---- there is a row more
 
   module _ (k : end < length text) where
@@ -135,11 +138,8 @@ module _ {text : List ℕ} {at n : ℕ} {dates : List ℤ} {starts : List ℕ} (
     all-rows : n ≡ length (rowsOf text)
     all-rows = omega (arith, ap length (l .rest ∙ no-row text at end (l .inside) e k), length-drop n (rowsOf text), l .known)
 
-    pub rows-few : n ≤ 4096
-    rows-few = omega (arith, l .few, l .inside, t)
-
     listed-long : length (take n dates) ≡ n
-    listed-long = length-take-le n dates (omega (arith, rows-few, l .room))
+    listed-long = length-take-le n dates (omega (arith, rows-few t, l .room))
 
     pub all-dated : allDated text ≡ true
     unfolding allDated
@@ -153,7 +153,7 @@ module _ {text : List ℕ} {at n : ℕ} {dates : List ℤ} {starts : List ℕ} (
               (λ i m.
               let f : i < n = omega (arith, m, listed-long) in
               getD-take n dates i (pos 0) f ∙ l .day i f ∙ sym (map-at dayIn (rowsOf text) i [] (pos 0) (omega (arith, f, all-rows))));
-          enough = omega (arith, listed-long, l .places, rows-few);
+          enough = omega (arith, listed-long, l .places, rows-few t);
           dated = λ i m. l .dated i (omega (arith, m, listed-long));
           stands = λ i m. l .stands i (omega (arith, m, listed-long));
         }

@@ -14,7 +14,7 @@ use text::lines::line_end;
 use whole::divide::floor_div;
 
 // Whether a row has a day.
-pub fn has_day(row: &[u8]) -> bool
+fn has_day(row: &[u8]) -> bool
     ensures { λ r. ⌜ r ≡ hasDay (now (row .entry)) ⌝ }
 {
     if !holds_decimal(MJD, row) {
@@ -24,14 +24,14 @@ pub fn has_day(row: &[u8]) -> bool
 }
 
 // The day of a row that has one.
-pub fn day_in(row: &[u8]) -> i64
+fn day_in(row: &[u8]) -> i64
     requires { ⌜ hasDay (now row) ≡ true ⌝ }
     ensures { λ r. ⌜ r ≡ dayIn (now (row .entry)) ⌝ }
 {
     floor_div(value_in(MJD, row), 100)
 }
 
-// Whether each row has a day, and then how many rows there are.
+// Whether each row has a day, and how many rows there are before the first that has none.
 pub struct RowList {
     pub right: bool,
     pub rows: usize,
@@ -40,7 +40,7 @@ pub struct RowList {
 // Lists the rows of a text: the day of each, and where it starts; behind the last start stands where a next row would.
 pub fn list_rows(text: &[u8], dates: &mut [i64], starts: &mut [usize]) -> RowList
     requires { ⌜ (length (now text) ≤ 65536) × (length (now dates) ≡ 4096) × (length (now starts) ≡ 4097) ⌝ }
-    ensures { λ r. ⌜ (r .right ≡ allDated (now (text .entry))) × (r .right ≡ true → (r .rows ≤ 4096) × Listed (now (text .entry)) (take (r .rows) (now (dates .exit))) (now (starts .exit))) ⌝ }
+    ensures { λ r. ⌜ (r .rows ≤ 4096) × (r .right ≡ allDated (now (text .entry))) × (r .right ≡ true → Listed (now (text .entry)) (take (r .rows) (now (dates .exit))) (now (starts .exit))) ⌝ }
 {
     let mut at: usize = 0;
     let mut n: usize = 0;

@@ -1,17 +1,17 @@
 // What a refusal means, in words on standard error: what was found, what is allowed, and where. Rows and columns count from 1.
-ghost use Prim.Native.Nat.{_<_, _≤_};
-ghost use lib.ListN.{length};
+ghost use Prim.Native.Nat.{_≤_};
 use crate::faults::after;
 use crate::faults::columns_of;
+use crate::faults::first_fault;
 use crate::faults::first_lacking;
 use crate::faults::first_out;
 use crate::faults::range_of;
 use crate::faults::value_of;
-use crate::faults::walk;
 use bulletin::DAY_COUNT;
 use bulletin::layout::Columns;
 use bulletin::layout::MJD;
 use bulletin::layout::holds_decimal;
+use bulletin::listing::list_rows;
 use bulletin::taking::first_in;
 use console::say::say;
 use console::say::say_decimal;
@@ -218,6 +218,18 @@ fn explain_value(text: &[u8], days: &[i64], first: i64, count: i64, tai: &[i64])
 
 // ---- all
 
+// What a refusal other than 1 means; the days of the rows before the first that has none are lent.
+fn explain_rows(text: &[u8], days: &[i64], first: i64, count: i64, tai: &[i64], n: i64) {
+    if n == 10 {
+        let f = first_fault(text, days, first, count);
+        explain_row(text, f.row, f.field);
+    } else if n == 11 {
+        explain_lacking(days, first);
+    } else {
+        explain_value(text, days, first, count, tai);
+    }
+}
+
 // What a refusal means, if there is one.
 pub(crate) fn explain(text: &[u8], first: i64, count: i64, tai: &[i64], n: i64) {
     if n < 1 {
@@ -226,19 +238,14 @@ pub(crate) fn explain(text: &[u8], first: i64, count: i64, tai: &[i64], n: i64) 
     say(b"refused ");
     say_decimal(n);
     say(b": ");
-    if n == 1 {
+    if 65_536 < text.len() {
         say(b"the rows have more than 65536 bytes, allowed 65536\n");
         return;
     }
     let mut days = [0i64; 4096];
-    let w = walk(text, first, count, &mut days);
-    let m = w.rows;
-    if n == 10 {
-        explain_row(text, m, w.field);
-    } else if n == 11 {
-        explain_lacking(&days[..m], first);
-    } else {
-        explain_value(text, &days[..m], first, count, tai);
-    }
+    let mut starts = [0usize; 4097];
+    let listed = list_rows(text, &mut days, &mut starts);
+    let m = listed.rows;
+    explain_rows(text, &days[..m], first, count, tai, n);
     say(b"\n");
 }

@@ -1,6 +1,6 @@
-// The first fault of rows, or of what they give. Fields count as in a record: 0 MJD, 1 x, 2 y, 3 UT1-UTC, 4 TAI-UTC; 5 stands for none.
-ghost use Prim.Native.Nat.{_+_, _<_, _≤_};
-ghost use lib.ListN.{length};
+// The first fault of rows, or of what they give. Fields count as in a record: 0 MJD, 1 x, 2 y, 3 UT1-UTC, 4 TAI-UTC. The mark is never
+// at fault, and 5 stands for none.
+ghost use Prim.Native.Nat.{_≤_};
 ghost use Rattle.bulletin.specs.Code.{Apt};
 use bulletin::layout::Columns;
 use bulletin::layout::MJD;
@@ -9,8 +9,6 @@ use bulletin::layout::X;
 use bulletin::layout::Y;
 use bulletin::layout::holds_decimal;
 use bulletin::layout::value_in;
-use bulletin::listing::day_in;
-use bulletin::listing::has_day;
 use bulletin::taking::first_in;
 use bulletin::taking::is_asked;
 use fields::ranges::MJD as MJD_RANGE;
@@ -19,7 +17,7 @@ use fields::ranges::Range;
 use fields::ranges::TAI_UTC;
 use fields::ranges::UT1_UTC;
 use fields::ranges::inside;
-use text::lines::line_end;
+use text::lines::line_of;
 use whole::sign::size;
 
 // ---- refusal 10
@@ -36,14 +34,6 @@ pub(crate) fn columns_of(field: usize) -> Columns
     }
 }
 
-// The day of a row; 0 where it has none.
-fn day_of(row: &[u8]) -> i64 {
-    if !has_day(row) {
-        return 0;
-    }
-    day_in(row)
-}
-
 // The first of x, y and UT1-UTC that is no decimal in a row.
 fn unfilled(row: &[u8]) -> usize {
     if !holds_decimal(X, row) {
@@ -58,58 +48,39 @@ fn unfilled(row: &[u8]) -> usize {
     5
 }
 
-// Whether a day is asked for, and no row before has it. The days of the rows before are lent.
-fn first_asked(before: &[i64], d: i64, first: i64, count: i64) -> bool {
+// Whether row i, whose day is d, is taken: the day is asked for, and no row before has it. The days of the rows are lent.
+fn is_taken(days: &[i64], d: i64, i: usize, first: i64, count: i64) -> bool {
     if 100_000 < size(d) {
         return false;
     }
     if !is_asked(d, first, count) {
         return false;
     }
-    first_in(before, d) == before.len()
+    first_in(days, d) == i
 }
 
-// The field of a row that is at fault.
-fn fault_in(row: &[u8], before: &[i64], first: i64, count: i64) -> usize {
-    if !has_day(row) {
-        return 0;
-    }
-    if !first_asked(before, day_of(row), first, count) {
-        return 5;
-    }
-    unfilled(row)
-}
-
-// The rows before the first at fault, and the field of it that is.
-pub(crate) struct Walked {
-    pub rows: usize,
+// A row, and the field of it that is at fault.
+pub(crate) struct Fault {
+    pub row: usize,
     pub field: usize,
 }
 
-// Walks the rows up to the first at fault, as far as there is room for the day of each.
-pub(crate) fn walk(text: &[u8], first: i64, count: i64, days: &mut [i64]) -> Walked
-    ensures { λ r. ⌜ r .rows ≤ length (now (days .exit)) ⌝ }
-{
-    let mut at: usize = 0;
-    let mut n: usize = 0;
-    while n < days.len() {
-        let end = line_end(text, at);
-        if text.len() <= end {
-            return Walked { rows: n, field: 5 };
+// The first row at fault: one that is taken and not filled, or the one behind the rows whose days are lent, which has no day.
+pub(crate) fn first_fault(text: &[u8], days: &[i64], first: i64, count: i64) -> Fault {
+    let mut i: usize = 0;
+    while i < days.len() {
+        if is_taken(days, days[i], i, first, count) {
+            let field = unfilled(line_of(text, i));
+            if field < 5 {
+                return Fault {
+                    row: i,
+                    field: field,
+                };
+            }
         }
-        let row = &text[at..end];
-        let field = fault_in(row, &days[..n], first, count);
-        if field < 5 {
-            return Walked {
-                rows: n,
-                field: field,
-            };
-        }
-        days[n] = day_of(row);
-        at = end + 1;
-        n += 1;
+        i += 1;
     }
-    Walked { rows: n, field: 5 }
+    Fault { row: i, field: 0 }
 }
 
 // ---- refusal 11

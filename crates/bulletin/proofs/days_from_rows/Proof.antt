@@ -35,7 +35,7 @@ returns-2 : tie.Need-returns-2
 returns-2 c =
     let a = c .before .before .before .before .before .before .before .before .before .before .args in
     let h : length (a .text .now) ≤ 65536 = omega (arith, c .before .before .before .before .before .before .before .before .if1 .left) in
-    c .no-days2 .ensures ∙ sym (some-undated (a .text .now) (a .first) (a .count) (a .tai .now) (le-leb (length (a .text .now)) 65536 h) (failed (c .before .before .before .before .before .list-rows .ensures .0) (c .before .if2 .taken)))
+    c .no-days2 .ensures ∙ sym (some-undated (a .text .now) (a .first) (a .count) (a .tai .now) (le-leb (length (a .text .now)) 65536 h) (failed (c .before .before .before .before .before .list-rows .ensures .1) (c .before .if2 .taken)))
 
 sub-days-among : tie.Need-sub-days-among
 sub-days-among c = search needs
@@ -44,7 +44,7 @@ part-days-among-start : tie.Need-part-days-among-start
 part-days-among-start c = search needs
 
 part-days-among-end : tie.Need-part-days-among-end
-part-days-among-end c = omega (arith, c .before .before .before .before .before .list-rows .ensures .1 (not-false _ (c .before .if2 .left)) .0)
+part-days-among-end c = omega (arith, c .before .before .before .before .before .list-rows .ensures .0)
 
 slice-aggregate-days-among : tie.Need-slice-aggregate-days-among
 slice-aggregate-days-among c = search needs
@@ -53,7 +53,7 @@ days-among-requires : tie.Need-days-among-requires
 days-among-requires c κs =
     let l = c .before .before .before .before .before .before .before .list-rows in
     let e : l .result .rows - 0 ≡ l .result .rows = omega arith in
-    (omega (arith, c .before .before .before .before .before .before .before .before .before .before .if1 .left), rw e (l .ensures .1 (not-false _ (c .before .before .before .if2 .left)) .1))
+    (omega (arith, c .before .before .before .before .before .before .before .before .before .before .if1 .left), rw e (l .ensures .2 (not-false _ (c .before .before .before .if2 .left))))
 
 returns-3 : tie.Need-returns-3
 returns-3 c = let s = c .before .before .before .before .before .before .before .before .before .before .before .before .before in simp (back (s .fits .first), back (s .fits .count)) at (c .days-among .ensures)

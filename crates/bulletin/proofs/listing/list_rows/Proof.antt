@@ -71,7 +71,7 @@ returns : tie.Need-returns Inv-loop μ-loop
 returns c =
     let l = c .before .before .before .before .loop in
     let k = c .before .before .before .loop-test .taken in
-    (sym (undated (l .inv .0) (l .end) (l .inv .1) k (ap hasDay (sym (row-is (l .inv .0) (l .end) (l .inv .1) k)) ∙ failed (c .before .has-day .ensures) (c .if1 .taken))), λ z. no-ft z)
+    (rows-few (l .inv .0) (l .end) (l .inv .1) (c .before .before .before .before .before .before .before .before .pre .0), sym (undated (l .inv .0) (l .end) (l .inv .1) k (ap hasDay (sym (row-is (l .inv .0) (l .end) (l .inv .1) k)) ∙ failed (c .before .has-day .ensures) (c .if1 .taken))), λ z. no-ft z)
 
 day-in-requires : tie.Need-day-in-requires Inv-loop μ-loop
 day-in-requires c κs = passed (c .before .has-day .ensures) (c .if1 .left)
@@ -114,7 +114,7 @@ returns-2 c =
     let l = c .before .loop in
     let t = c .before .before .before .before .before .pre .0 in
     let k : l .end ≡ length (c .before .before .before .before .before .args .text .now) = omega (arith, c .loop-test .left, end-most (c .before .before .before .before .before .args .text .now) (l .at) (l .end) (l .inv .0 .inside) (l .inv .1)) in
-    (sym (all-dated (l .inv .0) (l .end) (l .inv .1) k t), λ z. (rows-few (l .inv .0) (l .end) (l .inv .1) k t, listed (l .inv .0) (l .end) (l .inv .1) k t))
+    (rows-few (l .inv .0) (l .end) (l .inv .1) t, sym (all-dated (l .inv .0) (l .end) (l .inv .1) k t), λ z. listed (l .inv .0) (l .end) (l .inv .1) k t)
 
 pub list-rows-spec : {M : Type 1} → statement M
 list-rows-spec =

@@ -1,4 +1,4 @@
--- `days::explain::explain` lends the days of the rows that were walked.
+-- `days::explain::explain` lends the days of the rows that were listed.
 use mathlib.Core.Path.{sym}
 use lib.Seq.{length-take-le}
 use borrow.Author.Needs.{needs}
@@ -32,32 +32,23 @@ say-requires-3 c κs = search needs
 returns-2 : tie.Need-returns-2
 returns-2 c = search needs
 
-slice-aggregate-walk : tie.Need-slice-aggregate-walk
-slice-aggregate-walk c = search needs
+slice-aggregate-list-rows : tie.Need-slice-aggregate-list-rows
+slice-aggregate-list-rows c = search needs
 
-walk-requires : tie.Need-walk-requires
-walk-requires c κs = search needs
+slice-aggregate-list-rows-2 : tie.Need-slice-aggregate-list-rows-2
+slice-aggregate-list-rows-2 c = search needs
 
-explain-row-requires : tie.Need-explain-row-requires
-explain-row-requires c κs = search needs
+list-rows-requires : tie.Need-list-rows-requires
+list-rows-requires c κs = search needs
 
 array-share-prefix-days : tie.Need-array-share-prefix-days
 array-share-prefix-days c = search needs
 
-slice-aggregate-explain-lacking : tie.Need-slice-aggregate-explain-lacking
-slice-aggregate-explain-lacking c = sym (length-take-le _ _ (array-share-prefix-days (c .before)))
+slice-aggregate-explain-rows : tie.Need-slice-aggregate-explain-rows
+slice-aggregate-explain-rows c = sym (length-take-le _ _ (array-share-prefix-days (c .before)))
 
-explain-lacking-requires : tie.Need-explain-lacking-requires
-explain-lacking-requires c κs = search needs
-
-array-share-prefix-days-2 : tie.Need-array-share-prefix-days-2
-array-share-prefix-days-2 c = search needs
-
-slice-aggregate-explain-value : tie.Need-slice-aggregate-explain-value
-slice-aggregate-explain-value c = sym (length-take-le _ _ (array-share-prefix-days-2 (c .before)))
-
-explain-value-requires : tie.Need-explain-value-requires
-explain-value-requires c κs = search needs
+explain-rows-requires : tie.Need-explain-rows-requires
+explain-rows-requires c κs = search needs
 
 slice-aggregate-say-4 : tie.Need-slice-aggregate-say-4
 slice-aggregate-say-4 c = search needs
@@ -81,15 +72,12 @@ explain-spec =
     slice-aggregate-say-3
     say-requires-3
     returns-2
-    slice-aggregate-walk
-    walk-requires
-    explain-row-requires
+    slice-aggregate-list-rows
+    slice-aggregate-list-rows-2
+    list-rows-requires
     array-share-prefix-days
-    slice-aggregate-explain-lacking
-    explain-lacking-requires
-    array-share-prefix-days-2
-    slice-aggregate-explain-value
-    explain-value-requires
+    slice-aggregate-explain-rows
+    explain-rows-requires
     slice-aggregate-say-4
     say-requires-4
     returns-3)
