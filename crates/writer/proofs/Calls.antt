@@ -1,91 +1,88 @@
--- The two round trips of the calls: what they hand out is the rows of the file, and `write` gives the only kinds that may stand today. Assumes nothing.
+-- The two round trips of the calls, by the kind of the days. Assumes nothing.
 use mathlib.Core.Path.{_≡_, refl, sym, ap, _∙_}
-use Prim.Native.Nat.{ℕ, _<_}
+use Prim.Native.Nat.{ℕ, _≤_, _<_}
 use native.Mathlib.Omega.{arith}
-use mathlib.Core.Bool.{Bool, true, false, cond}
+use mathlib.Core.Bool.{Bool, true, false, cond, _||_}
 use mathlib.Core.List.{List, [], _∷_}
+use mathlib.Core.Logic.{_⊎_, inl, inr, ⊎-elim}
+use lib.ListN.{length}
 use lib.IntN.{ℤ, pos, natAbs}
 use lib.Dec.{eqb}
 use borrow.Author.Tests.{eqb-true}
-use Rattle.whole.specs.Values.{firstValues}
+use Rattle.whole.specs.Ranges.{eqZ}
+use Rattle.whole.specs.Answers.{number}
 use Rattle.whole.proofs.Linear.{no-ft}
-use Rattle.whole.proofs.Values.{values-same}
+use Rattle.whole.proofs.Order.{eqZ-true}
+use Rattle.text.specs.Bytes.{pasted}
 use Rattle.text.proofs.Numbers.{Bytes}
-use Rattle.fields.specs.Records.{numberIn, stationFrom, sourceFrom, dayFrom, passFrom}
-use Rattle.sections.specs.Layouts.{places, layoutIn, standsIn}
-use Rattle.sections.specs.File.{refusalOf, countOf, kindOf, sizeOf}
-use Rattle.sections.specs.Rows.{rowOf}
+use Rattle.sections.specs.Layouts.{places, standsIn}
+use Rattle.sections.specs.File.{refusalOf, kindOf}
 use Rattle.sections.proofs.Shapes.{today}
 use Rattle.sections.proofs.Sound.{kind-stands}
 use Rattle.sections.proofs.Accepted.{accepted-contents}
 use Rattle.session.specs.declared.Counts.{Counts}
-use Rattle.session.specs.Records.{checkOf, countsIn, stationOf, sourceOf, dayOf, passOf}
-use Rattle.session.proofs.Fields.{row-number}
-use Rattle.session.proofs.Answers.{check-number, check-accepted, asked-there, station-yes, source-yes, day-yes, pass-yes}
-use Rattle.whole.specs.Values.{joined}
-use Rattle.writer.specs.Writing.{kindAt, sizeIn, kinds}
-use Rattle.writer.specs.Handed.{rowsIn, ofStation, ofSource, ofDay, ofPass, stationsIn, sourcesIn, daysIn, passesIn}
-use Rattle.writer.specs.Round.{ReadBackAs, ReadBack, WrittenBack}
-use Rattle.whole.proofs.Values.{joined-same}
+use Rattle.session.specs.Records.{checkOf}
+use Rattle.session.proofs.Answers.{check-number, check-accepted}
+use Rattle.writer.specs.Writing.{kindAt, kindsWith}
+use Rattle.writer.specs.Handed.{stationsIn, sourcesIn, daysIn, passesIn}
+use Rattle.writer.specs.Promises.{WritePromise}
+use Rattle.writer.specs.Round.{Longs, ReadBack, WrittenBack}
 use Rattle.writer.proofs.RoundTrips.{each-place, written-as}
+use Rattle.writer.proofs.Handing.{stations-rows, sources-rows, days-rows, passes-rows, hands}
+use Rattle.writer.proofs.DayKinds.{answered, as-standing, keeps-standing, number-five, other-refused}
+use Rattle.writer.proofs.ThreeBack.{three-back, three-again}
 
--- ---- the records handed out of a file that has the kinds that `write` gives
+-- ---- what is written is read back
 
-module _ (s : List ℕ) (h : refusalOf s ≡ 0) (same : (p : ℕ) → p < 4 → kindOf s p ≡ kindAt kinds p) where
-  -- of place p, whose records have size numbers: as many as `check` counts, and each the numbers of its row
-  rows-handed : (p size : ℕ) → p < 4 → sizeIn places p (kindAt kinds p) ≡ size → (count : Counts → ℤ) → count (countsIn s) ≡ pos (countOf s p)
-      → (f : ℕ → List ℤ) → ((i : ℕ) → i < countOf s p → f i ≡ firstValues size (numberIn (rowOf places s p i))) → joined (natAbs (count (checkOf s))) f ≡ rowsIn places s p
-  unfolding rowsIn
-  rows-handed p size l e count c f r =
-      let z : size ≡ sizeOf places s p = sym (ap (sizeIn places p) (same p l) ∙ e) in
-      ap (λ (n : ℕ). joined n f) (ap natAbs (ap count (check-accepted s h) ∙ c))
-      ∙ joined-same f _ (countOf s p)
-      (λ i m. r i m ∙ ap (λ (n : ℕ). firstValues n (numberIn (rowOf places s p i))) z ∙ values-same (sizeOf places s p) _ _ (row-number places s p i))
+module _ (p q r t : List ℤ) (room : List ℕ) where
+  five-back : Longs p → Longs q → Longs r → Longs t → ReadBack (pos 5) p q r t room
+  five-back fp fq fr ft e =
+      let w = keeps-standing (pos 5) p q r t room (number-five p q r t (length room)) (each-place _ fp fq fr ft) e in
+      hands 5 p q r r t _ w (days-rows _ (w .accepted) (w .kind 2 (omega arith)) ∙ w .rows 2 (omega arith))
 
-  stations-rows : stationsIn s ≡ rowsIn places s 0
-  unfolding stationsIn stationOf stationFrom firstValues layoutIn places
-  stations-rows = rows-handed 0 4 (omega arith) refl (λ (c : Counts). c .stations) refl _ (λ i l. ap ofStation (station-yes s i (asked-there s 0 i h l)))
+  pub read-back : (kind : ℤ) → Longs p → Longs q → Longs r → Longs t → ReadBack kind p q r t room
+  read-back kind fp fq fr ft = by (eqZ kind (pos 3)) (eqZ kind (pos 5)) refl refl
+    where
+      by : (a b : Bool) → eqZ kind (pos 3) ≡ a → eqZ kind (pos 5) ≡ b → ReadBack kind p q r t room
+      by true b x y = rw (eqZ-true kind (pos 3) x) (three-back p q r t room fp fq fr ft)
+      by false true x y = rw (eqZ-true kind (pos 5) y) (five-back fp fq fr ft)
+      by false false x y =
+          let none : (eqZ kind (pos 3) || eqZ kind (pos 5)) ≡ false = rw (x, y) in
+          λ e. absurd (other-refused kind p q r t (length room) none (ap natAbs (sym (answered kind p q r t (length room)) ∙ e)))
 
-  sources-rows : sourcesIn s ≡ rowsIn places s 1
-  unfolding sourcesIn sourceOf sourceFrom firstValues layoutIn places
-  sources-rows = rows-handed 1 3 (omega arith) refl (λ (c : Counts). c .sources) refl _ (λ i l. ap ofSource (source-yes s i (asked-there s 1 i h l)))
-
-  days-rows : daysIn s ≡ rowsIn places s 2
-  unfolding daysIn dayOf dayFrom firstValues layoutIn places
-  days-rows = rows-handed 2 5 (omega arith) refl (λ (c : Counts). c .days) refl _ (λ i l. ap ofDay (day-yes s i (asked-there s 2 i h l)))
-
-  passes-rows : passesIn s ≡ rowsIn places s 3
-  unfolding passesIn passOf passFrom firstValues layoutIn places
-  passes-rows = rows-handed 3 8 (omega arith) refl (λ (c : Counts). c .passes) refl _ (λ i l. ap ofPass (pass-yes s i (asked-there s 3 i h l)))
-
-pub read-back : (p q r t : List ℤ) (room : List ℕ) → ReadBackAs kinds (p ∷ q ∷ r ∷ t ∷ []) room → ReadBack p q r t room
-read-back p q r t room g e =
-    let w = g e in
-    let h = w .accepted in
-    record {
-      accepted = check-number _ ∙ ap pos h;
-      stations = stations-rows _ h (w .kind) ∙ w .rows 0 (omega arith);
-      sources = sources-rows _ h (w .kind) ∙ w .rows 1 (omega arith);
-      days = days-rows _ h (w .kind) ∙ w .rows 2 (omega arith);
-      passes = passes-rows _ h (w .kind) ∙ w .rows 3 (omega arith);
-    }
-
--- ---- today a file that is accepted has no other kinds
+-- ---- the kinds of a file that is accepted
 
 only : (b : Bool) (k n : ℕ) → eqb k n ≡ b → cond b true false ≡ true → k ≡ n
 only true k n e m = eqb-true k n e
 only false k n e m = no-ft m
 
-kinds-today : (s : List ℕ) → refusalOf s ≡ 0 → (p : ℕ) → p < 4 → kindOf s p ≡ kindAt kinds p
+either : (a b : Bool) (k m n : ℕ) → eqb k m ≡ a → eqb k n ≡ b → cond a true (cond b true false) ≡ true → (k ≡ m) ⊎ (k ≡ n)
+either true b k m n e f h = inl (eqb-true k m e)
+either false b k m n e f h = inr (only b k n f h)
+
+kinds-today : (s : List ℕ) → refusalOf s ≡ 0
+    → ((p : ℕ) → p < 4 → kindOf s p ≡ kindAt (kindsWith 3) p) ⊎ ((p : ℕ) → p < 4 → kindOf s p ≡ kindAt (kindsWith 5) p)
 unfolding standsIn places
 kinds-today s h =
     let stands : (p : ℕ) → p < 4 → standsIn places p (kindOf s p) ≡ true = kind-stands today s (accepted-contents today s h) in
-    each-place (λ (p : ℕ). kindOf s p ≡ kindAt kinds p)
-    (only _ _ 1 refl (stands 0 (omega arith))) (only _ _ 2 refl (stands 1 (omega arith))) (only _ _ 3 refl (stands 2 (omega arith))) (only _ _ 4 refl (stands 3 (omega arith)))
+    let all : (k : ℕ) → kindOf s 2 ≡ k → (p : ℕ) → p < 4 → kindOf s p ≡ kindAt (kindsWith k) p = λ k e. each-place (λ (p : ℕ). kindOf s p ≡ kindAt (kindsWith k) p) (only _ _ 1 refl (stands 0 (omega arith))) (only _ _ 2 refl (stands 1 (omega arith))) e (only _ _ 4 refl (stands 3 (omega arith))) in
+    ⊎-elim (λ e. inl (all 3 e)) (λ e. inr (all 5 e)) (either _ _ (kindOf s 2) 3 5 refl refl (stands 2 (omega arith)))
+
+-- ---- what is accepted is what is written
+
+five-again : (s : List ℕ) → Bytes s → refusalOf s ≡ 0 → ((p : ℕ) → p < 4 → kindOf s p ≡ kindAt (kindsWith 5) p) → (room : List ℕ) → length s ≤ length room
+    → WritePromise (pos 5) (stationsIn s) (sourcesIn s) (daysIn s) (passesIn s) room (number (pos (length s))) (pasted room 0 s)
+five-again s b h k room l =
+    let p = stationsIn s in
+    let q = sourcesIn s in
+    let r = daysIn s in
+    let t = passesIn s in
+    as-standing (pos 5) p q r t room (number-five p q r t (length room)) _ _
+    (written-as s b (kindsWith 5) (p ∷ q ∷ r ∷ t ∷ []) (λ i m. sym (k i m))
+    (each-place _ (stations-rows s h (k 0 (omega arith))) (sources-rows s h (k 1 (omega arith))) (days-rows s h (k 2 (omega arith))) (passes-rows s h (k 3 (omega arith)))) h room l)
 
 pub written-back : (s : List ℕ) → Bytes s → WrittenBack s
-written-back s b e =
+written-back s b e room l =
     let h : refusalOf s ≡ 0 = ap natAbs (sym (check-number s) ∙ e) in
-    let k = kinds-today s h in
-    written-as s b kinds (stationsIn s ∷ sourcesIn s ∷ daysIn s ∷ passesIn s ∷ []) (λ p l. sym (k p l))
-    (each-place _ (stations-rows s h k) (sources-rows s h k) (days-rows s h k) (passes-rows s h k)) h
+    let kind : checkOf s .«day_kind» ≡ pos (kindOf s 2) = ap (λ (c : Counts). c .«day_kind») (check-accepted s h) in
+    ⊎-elim (λ k. rw (kind, k 2 (omega arith)) (three-again s b h k room l)) (λ k. rw (kind, k 2 (omega arith)) (five-again s b h k room l)) (kinds-today s h)

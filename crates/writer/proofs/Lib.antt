@@ -6,6 +6,11 @@ pub mod Outcomes
 pub mod Made
 pub mod Again
 pub mod RoundTrips
-pub mod Calls
+pub mod Handing
+pub mod DayKinds
 pub mod Fitting
+pub mod WithoutMarks
+pub mod KindThree
+pub mod ThreeBack
+pub mod Calls
 pub mod Promises

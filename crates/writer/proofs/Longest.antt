@@ -82,16 +82,16 @@ list-most t p k n w =
 
 -- ---- the contents table and the fullest places, computed from the table of layouts
 
-fullest : 8 * (13 + mostIn places 0 + mostIn places 1 + mostIn places 2 + mostIn places 3) ≡ 14_952
+fullest : 8 * (13 + mostIn places 0 + mostIn places 1 + mostIn places 2 + mostIn places 3) ≡ 15_464
 unfolding mostIn places
 fullest = refl
 
 module _ (k : Kinds) (ls : List (List ℤ)) (h : listsRight places k ls ≡ true) where
-  pub lists-short : startFor ls 4 ≤ 14_952
+  pub lists-short : startFor ls 4 ≤ 15_464
   unfolding startFor
   lists-short =
       let m : (p : ℕ) → p < 4 → length (listAt ls p) ≤ mostIn places p = λ p l. list-most places p (kindAt k p) _ (lists-right today k ls h p l) in
       omega (arith, fullest, m 0 (omega arith), m 1 (omega arith), m 2 (omega arith), m 3 (omega arith))
 
-  pub made-short : length (fileOf places k ls) ≤ 14_952
+  pub made-short : length (fileOf places k ls) ≤ 15_464
   made-short = omega (arith, made-long places k ls, lists-short)

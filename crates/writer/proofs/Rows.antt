@@ -18,7 +18,7 @@ use Rattle.writer.specs.Handed.{rowsIn}
 use Rattle.whole.proofs.Values.{joined-even}
 
 -- records of size numbers each, one after the other
-joined-values : (size n : ℕ) (f : ℕ → List ℤ) (g : ℕ → ℤ) → ((i : ℕ) → f i ≡ firstValues size (λ (k : ℕ). g (size * i + k))) → joined n f ≡ firstValues (size * n) g
+pub joined-values : (size n : ℕ) (f : ℕ → List ℤ) (g : ℕ → ℤ) → ((i : ℕ) → f i ≡ firstValues size (λ (k : ℕ). g (size * i + k))) → joined n f ≡ firstValues (size * n) g
 unfolding joined firstValues
 joined-values size zero f g e = ap (λ (n : ℕ). firstValues n g) (sym (mul-zero size))
 joined-values size (suc n) f g e =

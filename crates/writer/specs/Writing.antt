@@ -88,10 +88,7 @@ unmarked days = allBelow (length days / 6) (λ (i : ℕ). eqZ (markAt days i) (p
 unfoldable pub withoutMarks : List ℤ → List ℤ
 withoutMarks days = joined (length days / 6) (λ (i : ℕ). firstValues 5 (λ (j : ℕ). getD days (6 * i + j) (pos 0)))
 
--- a day list is a right count of whole records; and so are the other three lists
-abbrev pub daysRight : List ℤ → Bool
-daysRight days = listRight places 2 5 (length days)
-
+-- the stations, the sources and the passes are right counts of whole records
 unfoldable pub othersRight : List ℤ → List ℤ → List ℤ → Bool
 othersRight stations sources passes = listRight places 0 1 (length stations) && (listRight places 1 2 (length sources) && listRight places 3 4 (length passes))
 
@@ -103,13 +100,13 @@ module _ (kind : ℤ) (stations sources days passes : List ℤ) where
   unfoldable pub fileWith : List ℕ
   fileWith = fileOf places (kindsWith ∣ kind ∣) standing
 
-  -- the refusal, the lowest that applies: 1 where a list is not right, 2 where a mark has no place, the number that the reader gives the file, 7 where the room is
-  -- too short; of any other kind of days, 2, and then how many numbers their list has is no matter
+  -- the refusal, the lowest that applies: 1 where a list is not right, with six numbers for a day as kind 5 has them, 2 where a mark has no place, the number that the
+  -- reader gives the file, 7 where the room is too short; of any other kind of days, 2, and then how many numbers their list has is no matter
   unfoldable pub writeNumber : ℕ → ℕ
   writeNumber room =
       cond (eqZ kind (pos 3) || eqZ kind (pos 5))
       (lowest
-      (unless (othersRight stations sources passes && daysRight days) 1
+      (unless (listsRight places (kindsWith 5) (stations ∷ sources ∷ days ∷ passes ∷ [])) 1
       ∷ unless (implies (eqZ kind (pos 3)) (unmarked days)) 2
       ∷ refusalOf fileWith
       ∷ unless (leb (length fileWith) room) 7

@@ -6,11 +6,10 @@ ghost use Prim.Native.Nat.{_+_, _*_, _≤_, _<_};
 ghost use lib.ListN.{length};
 ghost use lib.IntN.{pos};
 ghost use Rattle.whole.specs.Answers.{noNumber};
-ghost use Rattle.whole.specs.Refusals.{unless, lowest};
 ghost use Rattle.text.specs.Bytes.{pasted, wordsOf, bytesOfAll};
 ghost use Rattle.text.specs.Put.{Put};
 ghost use Rattle.sections.specs.Layouts.{places};
-ghost use Rattle.writer.specs.Writing.{kindsWith, listsRight, othersRight, fileOf, writeRefusal};
+ghost use Rattle.writer.specs.Writing.{kindsWith, listsRight, fileOf, writeRefusal};
 ghost use Rattle.writer.specs.Promises.{WritePromise, WriteAsPromise};
 
 mod lists;
@@ -18,7 +17,6 @@ mod marks;
 pub mod theorems;
 
 use lists::contents_for;
-use lists::list_right;
 use lists::lists_right;
 use lists::others_right;
 use marks::put_unmarked;
@@ -113,6 +111,7 @@ fn kinds_with(third: usize) -> Kinds
     }
 }
 
+// The answer of a refused call.
 fn refused(n: usize) -> Number
     requires { ⌜ n < 65536 ⌝ }
     ensures { λ r. ⌜ r ≡ noNumber n ⌝ }
@@ -121,16 +120,6 @@ fn refused(n: usize) -> Number
         refusal: number(n),
         value: 0,
     }
-}
-
-// The refusal where the kind of the days or a mark is wrong: a list of the others that is not right comes first.
-fn without_days(stations: &[i64], sources: &[i64], passes: &[i64]) -> Number
-    ensures { λ w. ⌜ w ≡ noNumber (lowest (unless (othersRight (now (stations .entry)) (now (sources .entry)) (now (passes .entry))) 1 ∷ 2 ∷ [])) ⌝ }
-{
-    if !others_right(stations, sources, passes) {
-        return refused(1);
-    }
-    refused(2)
 }
 
 // The file with days of kind 3, which has no marks: five numbers of each record stand in it.
@@ -143,11 +132,11 @@ fn write_unmarked(
 ) -> Number
     ensures { λ w. ⌜ WritePromise (pos 3) (now (stations .entry)) (now (sources .entry)) (now (days .entry)) (now (passes .entry)) (now (room .entry)) w (now (room .exit)) ⌝ }
 {
-    if !list_right(2, 5, days.len()) {
+    if !lists_right(kinds_with(5), stations, sources, days, passes) {
         return refused(1);
     }
     if !unmarked(days) {
-        return without_days(stations, sources, passes);
+        return refused(2);
     }
     let mut five = [0i64; 320];
     let n = put_unmarked(&mut five, days);
@@ -163,7 +152,7 @@ pub fn write(
     passes: &[i64],
     room: &mut [u8],
 ) -> Number
-    ensures { λ w. ⌜ WritePromise day_kind (now (stations .entry)) (now (sources .entry)) (now (days .entry)) (now (passes .entry)) (now (room .entry)) w (now (room .exit)) ⌝ }
+    ensures { λ w. ⌜ WritePromise «day_kind» (now (stations .entry)) (now (sources .entry)) (now (days .entry)) (now (passes .entry)) (now (room .entry)) w (now (room .exit)) ⌝ }
 {
     if day_kind == 3 {
         return write_unmarked(stations, sources, days, passes, room);
@@ -171,5 +160,8 @@ pub fn write(
     if day_kind == 5 {
         return write_as(kinds_with(5), stations, sources, days, passes, room);
     }
-    without_days(stations, sources, passes)
+    if !others_right(stations, sources, passes) {
+        return refused(1);
+    }
+    refused(2)
 }

@@ -9,7 +9,7 @@ use crate::Kinds;
 use sections::layouts::layout_in;
 
 // Whether n numbers are a right count of whole records of a kind in a place.
-pub fn list_right(place: usize, kind: usize, n: usize) -> bool
+fn list_right(place: usize, kind: usize, n: usize) -> bool
     requires { ⌜ place < 4 ⌝ }
     ensures { λ r. ⌜ r ≡ listRight places place kind n ⌝ }
 {

@@ -49,7 +49,7 @@ pub fn reads_back(
     passes: &[i64],
     room: &[u8],
 )
-    ensures { λ _. ⌜ ReadBack day_kind (now (stations .entry)) (now (sources .entry)) (now (days .entry)) (now (passes .entry)) (now (room .entry)) ⌝ }
+    ensures { λ _. ⌜ ReadBack «day_kind» (now (stations .entry)) (now (sources .entry)) (now (days .entry)) (now (passes .entry)) (now (room .entry)) ⌝ }
 {
     each_fits(stations);
     each_fits(sources);

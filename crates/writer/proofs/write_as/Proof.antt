@@ -5,7 +5,7 @@ use mathlib.Core.Path.{_≡_, sym, ap, _∙_}
 use mathlib.Core.List.{[], _∷_}
 use lib.ListN.{length}
 use lib.IntN.{pos}
-use Rattle.whole.specs.Answers.{number}
+use Rattle.whole.specs.Answers.{number, noNumber}
 use Rattle.whole.proofs.Linear.{ret}
 use Rattle.sections.specs.Layouts.{places}
 use Rattle.sections.proofs.Shapes.{today}
@@ -19,24 +19,23 @@ use Rattle.writer.proofs.write_as.Tie as tie
 judged-requires : tie.Need-judged-requires
 judged-requires c κs = search needs
 
-number-requires : tie.Need-number-requires
-number-requires c κs = search needs
+refused-requires : tie.Need-refused-requires
+refused-requires c κs = search needs
 
 returns : tie.Need-returns
 returns c =
     let n = c .before .before .judged in
-    let g = ret (c .number .result) (c .number .ok) ∙ c .number .ensures ∙ ap pos (n .ensures .0) in
     let a = c .before .before .before .before .args in
     let h : (writeRefusal places (a .k) (a .stations .now ∷ a .sources .now ∷ a .days .now ∷ a .passes .now ∷ []) (length (a .room .now)) ≡ 0 → ⊥) = λ z. c .before .if1 .taken (n .ensures .0 ∙ z) in
-    ((λ j. record { refusal = g j; value = pos 0 }) ∙ sym (answer-none today _ _ (a .room .now) h), sym (room-stays today _ _ (a .room .now) h))
+    (c .refused .ensures ∙ ap noNumber (n .ensures .0) ∙ sym (answer-none today _ _ (a .room .now) h), sym (room-stays today _ _ (a .room .now) h))
 
 encode-requires : tie.Need-encode-requires
 encode-requires c κs =
     let w = accepted today _ _ _ (sym (c .before .before .judged .ensures .0) ∙ c .before .if1 .left) in
     (w .0, w .2)
 
-number-requires-2 : tie.Need-number-requires-2
-number-requires-2 c κs =
+number-requires : tie.Need-number-requires
+number-requires c κs =
     let w = accepted today _ _ _ (sym (c .before .before .before .before .before .judged .ensures .0) ∙ c .before .before .before .before .if1 .left) in
     omega (arith, c .before .before .encode .ensures .place, made-short _ _ (w .0))
 
@@ -48,7 +47,7 @@ returns-2 c =
     let e = sym (c .before .before .before .before .before .before .judged .ensures .0) ∙ c .before .before .before .before .before .if1 .left in
     let p = c .before .before .before .encode .ensures in
     let room = c .before .before .before .before .before .before .before .before .args .room .now in
-    let g = ret (c .number2 .result) (c .number2 .ok) ∙ c .number2 .ensures ∙ ap pos (p .place ∙ zero-add _) in
+    let g = ret (c .number .result) (c .number .ok) ∙ c .number .ensures ∙ ap pos (p .place ∙ zero-add _) in
     (ap number g ∙ sym (answer-long today _ _ room e), p .bytes ∙ sym (room-written today _ _ room e))
 
 pub write-as-spec : {M : Type 1} → statement M
@@ -56,9 +55,9 @@ write-as-spec =
     tie.close
     (tie.spec
     judged-requires
-    number-requires
+    refused-requires
     returns
     encode-requires
-    number-requires-2
+    number-requires
     same-length
     returns-2)
