@@ -60,7 +60,7 @@ pub extern "C" fn fringe_write(
     passes: &[i64],
     room: &mut [u8],
 ) -> Number
-    ensures { λ r. ⌜ WritePromise day_kind (now (stations .entry)) (now (sources .entry)) (now (days .entry)) (now (passes .entry)) (now (room .entry)) r (now (room .exit)) ⌝ }
+    ensures { λ r. ⌜ WritePromise «day_kind» (now (stations .entry)) (now (sources .entry)) (now (days .entry)) (now (passes .entry)) (now (room .entry)) r (now (room .exit)) ⌝ }
 {
     writer::write(day_kind, stations, sources, days, passes, room)
 }
