@@ -66,8 +66,8 @@ def at_its_end(published, day):
 
 
 def as_published(published):
-    """Published values are marked 1: UT1 used is theirs at 0h of each day, and at the end of each but for a minute of the tide; between,
-    it is what their UT1R gives.
+    """Published values are marked 1: UT1 used is theirs at 0h of each day, the next one's at its end, but for a minute of the
+    tide, and between them it is what their UT1R gives.
     """
     days = [record[0] for record in published[:-1]]
     at_0h, at_the_end, at_noon = ([(day, ms) for day in days] for ms in (0, LAST_MS, NOON))

@@ -63,7 +63,7 @@ def said_to_have(file, kind, count):
 
 
 def kinds_of_days():
-    """Files with another kind of days said, and as long as of another kind; six days of kind 3 have the bytes of five of kind 5."""
+    """Files that say another kind of days, or are as long as of another; six days of kind 3 have the bytes of five of kind 5."""
     plain, small = file_of(([STATION], [SOURCE], DAYS, [PASS])), small_marked(1)
     days = [(51_544 + i, 0, 0, 0, 32) for i in range(6)]
     six, five = file_of(([STATION], [SOURCE], days, [PASS])), small_marked(1, days=days[:5])
@@ -121,8 +121,9 @@ def lists_to_write():
     """The smallest file of each kind in a room that is enough and in one a byte short; then lists that are refused, each by
     one number more: kind of the days, lists, room.
     """
-    days, gap, fives = marked(DAYS, (0,)), marked(GAP, (0,)), DAYS * 3
+    days, gap = marked(DAYS, (0,)), marked(GAP, (0,))
     ones, twos = marked(DAYS, (0, 1)), marked(GAP, (0, 2))
+    listed, kinds = (ones, gap, days[:1], DAYS, DAYS * 3, []), (3, 5, 0, 4, 6, -3, -5, 2**32 + 5)
     written = [
         *((kind, [STATION], days, room) for kind, length in ((3, 304), (5, 320)) for room in (length, length - 1)),
         *((5, [STATION], ones, room) for room in (320, 319)),
@@ -133,6 +134,6 @@ def lists_to_write():
         (5, [STATION, (2,)], twos, 319),
         (4, [STATION, (2,)], twos, 319),
         *((kind, [STATION, STATION], twos, 319) for kind in (5, 4, 3)),
-        *((kind, [STATION], some, 320) for kind in (3, 5, 0, 4, 6, -3, -5, 2**32 + 5) for some in (ones, gap, days[:1], DAYS, fives, [])),
+        *((kind, [STATION], some, 320) for kind in kinds for some in listed),
     ]
-    return [(kind, (stations, [SOURCE], listed, [PASS]), room) for kind, stations, listed, room in written]
+    return [(kind, (stations, [SOURCE], some, [PASS]), room) for kind, stations, some, room in written]

@@ -57,7 +57,7 @@ def wrong_order(numbers, lists):
 
 
 def other_day_kind(numbers, lists):
-    """Days with marks said to be of kind 3, and days without said to be of kind 5: the kind alone is the other's, or the whole contents table."""
+    """Days with marks said to be of kind 3, and days without of kind 5: by the kind alone, and by a whole contents table."""
     for said, either in ((3, with_marks(numbers, lists)), (5, (*lists[:2], unmarked(lists[2]), lists[3]))):
         file = file_of(either)
         yield with_word(file, DAY_KIND, said)
@@ -191,8 +191,8 @@ def each_field_wrong(numbers, lists):
 
 
 def files(numbers, full, sound, each):
-    """Over-long files, each word of a contents table and each field wrong, counts just outside their limits, then `each` damaged files of
-    every kind, made from the sound sessions.
+    """Over-long files, each word of a contents table and each field wrong, counts just outside their limits, then `each`
+    damaged files of every sort, made from the sound sessions, and days of another kind than said.
     """
     return [
         *over_long(numbers.choice(sound)),

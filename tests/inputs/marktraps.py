@@ -69,10 +69,10 @@ def has_table(file):
 
 
 def of_refused_days(file):
-    """Kinds and marks that are none; days of one kind in a file that says the other, with its own first bytes or the other's."""
-    fault, words = session.fault(file), session.contents_table(file)
-    number, kind, _, field = fault
-    found = {"another kind of days": fault == (1, 0, 0, DAY_KIND), "a mark that is none": (number, kind, field) == (2, 5, MARK)}
+    """Kinds and marks that are none; days of one kind in a file that says the other, by the kind alone or by all first bytes."""
+    (number, kind, _, field), words = session.fault(file), session.contents_table(file)
+    fault = (number, kind, field)
+    found = {"another kind of days": fault == (1, 0, DAY_KIND), "a mark that is none": fault == (2, 5, MARK)}
     said, more = words[DAY_KIND], 8 * (words[DAY_KIND + 2] or 0)
     if number == 1 and within(more, 8, 8 * 64):
         found |= {
@@ -105,7 +105,7 @@ PAIRS = [pair for pair in RISING if pair != ("day list", "kind")]
 
 
 def reasons(day_kind, flats, room):
-    """Which of these apply, each judged by itself, of whole records alone; a day list of no kind is judged as one of kind 5."""
+    """Which of these apply, each judged by itself, of whole records; a day list of no kind is judged as one of kind 5."""
     kinds = session.layouts_with(day_kind)
     layouts = [*kinds[:DAYS], kinds[DAYS] or session.layout_of(DAYS, 5), kinds[PASSES]]
     lists = [session.rows(flat[:len(flat) // width * width], width) for flat, width in zip(flats, session.WIDTHS)]

@@ -1,4 +1,4 @@
-"""The questions of crates/answers/stdin: document 01's, some delays, some of marks, and of each call one for each number it gives."""
+"""The questions of crates/answers/stdin: document 01's, some delays and marks, and of each call one for each number it gives."""
 
 from reference import session
 
@@ -52,15 +52,12 @@ def of_two_stations():
 
 
 def of_marks():
-    """A file of kind 5: its days, and what they give over a midnight; its days written, and written as kind 3; a mark that is none."""
-    file, wrong = chosen.marked_passes(1, 0, 1), chosen.small_marked(1, 2)
-    yield Question(CHECK, lent=file)
-    yield from (Question(DAY, index, lent=file) for index in range(3))
-    yield from (Question(ORIENTATION, 60_000, ms, lent=file) for ms in (0, 86_399_000))
-    yield Question(DELAY, 10, 20, 1, 60_000, 86_399_000, lent=file)
-    yield Question(SAMPLES, 0, room=5, lent=file)
-    yield from (write.question(kind, write.flats_of(session.sections_of(file)), len(file)) for kind in (5, 3, 4))
-    yield from (Question(what, lent=wrong) for what in (CHECK, FAULT))
+    """A file of kind 5: a day, and what it gives over a midnight; a mark that is none; marks written in kind 5 and in kind 3."""
+    file, small = chosen.marked_passes(1, 0, 1), chosen.small_marked(1, 0)
+    yield from (Question(CHECK, lent=file), Question(DAY, 0, lent=file))
+    yield from (Question(ORIENTATION, 60_000, 86_399_000, lent=file), Question(SAMPLES, 0, room=5, lent=file))
+    yield Question(FAULT, lent=chosen.small_marked(1, 2))
+    yield from (write.question(kind, write.flats_of(session.sections_of(small)), len(small)) for kind in (5, 3))
 
 
 def short(known):

@@ -1,4 +1,6 @@
-"""Questions on the writer: lists in and out of order, ragged and miscounted, of each kind of days and of none, in rooms exact, short and ample."""
+"""Questions on the writer: lists in and out of order, ragged and miscounted, with each kind of days and with none that is
+one, in rooms exact, short and ample.
+"""
 
 import random
 from itertools import combinations

@@ -1,6 +1,7 @@
 """Rows of the IERS file finals2000A: document 02, L3 and L4. They are read as orientation records, and written from them.
 
-A text, a row and a room are bytes. A record has six numbers: MJD, x, y, UT1-UTC, TAI-UTC, mark. Rows hold full UT1: the mark is 1.
+A text, a row and a room are bytes. A record has six numbers: MJD, x, y, UT1-UTC, TAI-UTC, mark. Rows hold full UT1, so
+the mark is 1.
 """
 
 import re

@@ -1,4 +1,4 @@
-"""Laws of document 02, L4, held to the reference over seeded sessions: what marks do to delays, and that both kinds are written and read back."""
+"""Laws of document 02, L4, held to the reference over seeded sessions: what marks do to delays, and the way back of files."""
 
 import random
 
@@ -15,7 +15,7 @@ DAY_MS = earth.DAY_MS
 
 
 def plain(record):
-    """The record marked 0 whose UT1-UTC is less by the record's own tide, as document 02 says it; it may be beyond the range of a file."""
+    """The record marked 0 whose UT1-UTC is less by the record's own tide; it may be beyond what a file can hold."""
     day, x, y, ut1, tai, mark = record
     return (day, x, y, ut1 - earth.tide(day, 0, tai)[1] if mark == 1 else ut1, tai, 0)
 
@@ -34,7 +34,7 @@ def some_marked(numbers):
 
 
 def wrong_marks(lists):
-    """A record marked 1 gives the delays of the one marked 0 whose UT1-UTC is less by that tide, which is never past its bound."""
+    """A record marked 1 has the delays of the one marked 0 whose UT1-UTC is less by the tide, which keeps its bound."""
     less = [plain(record) for record in lists[delay.DAYS]]
     moved = [abs(one[3] - other[3]) for one, other in zip(lists[delay.DAYS], less)]
     same = samples_of(lists) == samples_of((*lists[:2], less, lists[3]))
@@ -46,7 +46,8 @@ def wrong_kinds(lists):
     """With marks 0 a file of kind 5 answers as that of kind 3, but for its kind."""
     lists = (*lists[:2], marked(lists[delay.DAYS], (0,)), lists[3])
     three, five = (session.encode(lists, kind) for kind in (3, 5))
-    same = all(session.record_at(three, place, i) == session.record_at(five, place, i) for place in range(4) for i in range(4))
+    asked = [(place, i) for place in range(4) for i in range(4)]
+    same = all(session.record_at(three, *each) == session.record_at(five, *each) for each in asked)
     yield "" if session.check(three)[:5] == session.check(five)[:5] and same else "the records differ"
     yield "" if samples_of(session.sections_of(three)) == samples_of(session.sections_of(five)) else "the delays differ"
 
@@ -84,9 +85,9 @@ def at_0h(tally, numbers):
 
 
 def over_midnight(tally, numbers):
-    """Where TAI-UTC stays, UT1 does not step between two days, whatever their marks: within a minute of the tide, and a ns of rounding."""
+    """Where TAI-UTC stays, UT1 does not step between two days, whatever their marks, but by a minute of the tide."""
     for _ in range(100):
-        days = [(day, x, y, ut1, 30, mark) for day, x, y, ut1, _, mark in marked(some_days(numbers, 3), some_marks(numbers, 3))]
+        days = [(*day[:4], 30, day[5]) for day in marked(some_days(numbers, 3), some_marks(numbers, 3))]
         before, after = (delay.orientation_of(*days[i:i + 2], ms)[2] for i, ms in ((0, DAY_MS - 1), (1, 0)))
         change = abs(delay.ut1r_of(days[1]) - delay.ut1r_of(days[0])) // DAY_MS
         tally.check("UT1 over midnight, %r" % days, abs(after - before) <= change + 4, "it steps by %d" % (after - before))

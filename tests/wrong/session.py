@@ -2,7 +2,7 @@
 
 from reference import session
 
-RIGHT_RECORDS, RIGHT_FAULT, RIGHT_CHECK, RIGHT_AT = session.fault_of_records, session.fault, session.check, session.record_at
+RIGHT_FAULT, RIGHT_CHECK, RIGHT_AT = session.fault, session.check, session.record_at
 FIELDS, IDS, DAYS = session.fault_of_fields, session.fault_of_ids, session.fault_of_days
 
 
@@ -64,7 +64,12 @@ def kind_of(other):
 
 def mark_handed(change):
     """Another mark handed out with a day."""
-    return lambda file, place, index: change(file, RIGHT_AT(file, place, index)) if place == 2 else RIGHT_AT(file, place, index)
+
+    def record_at(file, place, index):
+        answer = RIGHT_AT(file, place, index)
+        return change(file, answer) if place == 2 else answer
+
+    return record_at
 
 
 def mark_1_of_kind_3(file, answer):

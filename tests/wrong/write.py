@@ -124,6 +124,11 @@ def marks_1(lists, day_kind):
     return ([*lists[:DAYS], [(*day[:5], 1) for day in lists[DAYS]], lists[3]], day_kind)
 
 
+def kind_by_marks(lists, day_kind):
+    """Kind 5 only where a mark is not 0."""
+    return (lists, day_kind if any(day[5] for day in lists[DAYS]) else 3)
+
+
 REFUSALS = {
     "a mark dropped for kind 3": mark_dropped,
     "a mark 1 dropped for kind 3": mark_1_dropped,
@@ -143,7 +148,7 @@ ENCODINGS = {
     "marks written as 1": encoded(marks_1),
     "kind 5 written always": encoded(lambda lists, day_kind: (lists, 5)),
     "kind 3 written always": encoded(lambda lists, day_kind: (lists, 3)),
-    "kind 3 written where all marks are 0": encoded(lambda lists, day_kind: (lists, day_kind if any(day[5] for day in lists[DAYS]) else 3)),
+    "kind 3 written where all marks are 0": encoded(kind_by_marks),
 }
 
 WRONG = (
