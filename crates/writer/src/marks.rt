@@ -26,6 +26,7 @@ pub fn put_unmarked(room: &mut [i64], days: &[i64]) -> usize
 {
     let n = 5 * (days.len() / 6);
     let mut i: usize = 0;
+    // Behind each five numbers a mark is passed by.
     while i < n {
         room[i] = days[i + i / 5];
         i += 1;
