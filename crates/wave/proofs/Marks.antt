@@ -5,8 +5,7 @@ use Rattle.earth.specs.declared.time.Epoch.{Epoch}
 use Rattle.fields.specs.declared.Day.{Day}
 use Rattle.fields.specs.declared.Station.{Station}
 use Rattle.fields.specs.declared.Source.{Source}
-use Rattle.wave.specs.declared.values.Earth.{Earth}
-use Rattle.wave.specs.DayValues.{tideIn, ut1rOf, leapOf, ut1Line, ut1Used, earthOf}
+use Rattle.wave.specs.DayValues.{tideIn, leapOf, ut1Line, ut1Used, earthOf}
 use Rattle.wave.specs.Delays.{delayBetween}
 use Rattle.wave.specs.Keeping.{reducedOf}
 use Rattle.wave.proofs.DayLaws.{ut1r-marked, ut1r-unmarked}

@@ -3,7 +3,7 @@ use mathlib.Core.Path.{_≡_, sym, ap, _∙_}
 use native.Mathlib.Omega.{arith}
 use lib.IntN.{ℤ, pos, _+ℤ_, _-ℤ_}
 use mir.Syntax.{w64}
-use mir.Val.{toZ, ofZ}
+use mir.Val.{toZ}
 use Rattle.whole.proofs.Linear.{back, ret}
 use Rattle.whole.proofs.Machine.{M, lit, _⊟_, ok, is}
 use Rattle.whole.proofs.Quote.{⟨_⟩, #, _⊕_, _⊝_, by≡}

@@ -1,11 +1,10 @@
 -- `delay::records::day_in` meets its contract.
-use mathlib.Core.Path.{_≡_, sym, ap, _∙_}
+use mathlib.Core.Path.{_≡_, ap, _∙_}
 use Prim.Native.Nat.{_<_}
 use native.Mathlib.Omega.{arith}
 use borrow.Author.Needs.{needs}
 use borrow.Author.Tests.{ltb-true}
 use Rattle.whole.proofs.Linear.{back}
-use Rattle.fields.specs.Records.{InDay}
 use Rattle.sections.specs.File.{countOf}
 use Rattle.session.specs.Records.{placeBy, dayOf}
 use Rattle.session.proofs.Laws.{day-in}

@@ -1,5 +1,5 @@
 -- `delay::records::days_from` meets its contract.
-use mathlib.Core.Path.{_≡_, ap, _∙_}
+use mathlib.Core.Path.{ap, _∙_}
 use borrow.Author.Needs.{needs}
 use Rattle.whole.proofs.Linear.{back}
 use Rattle.delay.specs.Keeping.{daysFrom}

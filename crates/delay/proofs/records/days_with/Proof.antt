@@ -1,6 +1,6 @@
 -- `delay::records::days_with` meets its contract.
-use mathlib.Core.Path.{_≡_, ap, _∙_}
-use lib.IntN.{ℤ, pos, _+ℤ_}
+use mathlib.Core.Path.{ap, _∙_}
+use lib.IntN.{ℤ, pos}
 use Rattle.whole.proofs.Linear.{back}
 use Rattle.whole.proofs.Machine.{M, lit, _⊞_, ok, is}
 use Rattle.earth.proofs.Floors.{leaf}

@@ -1,7 +1,7 @@
 use mathlib.Core.Path.{_≡_, _∙_, sym, ap}
 use mathlib.Core.List.{[], _∷_}
 use Prim.Native.Nat.{ℕ}
-use Rattle.sections.specs.Layouts.{Layout, layoutIn, ofKind, places, orientation, marked}
+use Rattle.sections.specs.Layouts.{layoutIn, ofKind, places, orientation, marked}
 use Rattle.sections.specs.Code.{shapeOf}
 use Rattle.sections.proofs.Shapes.{kind-hit, kind-miss}
 use borrow.Author.Needs.{needs}

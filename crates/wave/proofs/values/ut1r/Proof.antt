@@ -1,11 +1,9 @@
 -- `wave::values::ut1r` meets its contract.
 use mathlib.Core.Path.{_≡_, sym, ap, _∙_}
-use Prim.Native.Nat.{_≤_}
 use borrow.Author.Needs.{needs}
 use lib.IntN.{ℤ, pos, _-ℤ_}
 use mir.Syntax.{w64}
 use mir.Val.{toZ, ofZ}
-use Rattle.whole.specs.Whole.{∣_∣}
 use Rattle.whole.proofs.Linear.{ret}
 use Rattle.whole.proofs.Machine.{M, var, _⊟_, ok, is}
 use Rattle.earth.specs.Calls.{epochOf}
