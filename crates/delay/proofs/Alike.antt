@@ -41,15 +41,18 @@ use Rattle.delay.proofs.Covered.{both-there}
 use Rattle.delay.proofs.Numbers.{judgedOf, orientation-first, beyond-number}
 use Rattle.delay.proofs.Theorems.{delay-clear, samples-clear}
 
--- both are accepted, and record by record they are alike
+-- both are accepted, and all but their days are the same
 pub record Alike (s t : List ℕ) : Type 0 where
   pub first : refusalOf s ≡ 0
   pub second : refusalOf t ≡ 0
   pub count : (p : ℕ) → p < 4 → countOf s p ≡ countOf t p
   pub station : (i : ℕ) → i < countOf s 0 → stationOf s i ≡ stationOf t i
   pub source : (i : ℕ) → i < countOf s 1 → sourceOf s i ≡ sourceOf t i
-  pub day : (i : ℕ) → i < countOf s 2 → reducedOf (dayOf s i) ≡ reducedOf (dayOf t i)
   pub pass : (i : ℕ) → i < countOf s 3 → passOf s i ≡ passOf t i
+
+-- their days give the same UT1R
+abbrev pub AlikeDays : List ℕ → List ℕ → Type 0
+AlikeDays s t = (i : ℕ) → i < countOf s 2 → reducedOf (dayOf s i) ≡ reducedOf (dayOf t i)
 
 -- answers by the same number
 given-same : {A : Type 0} (n m : ℕ) (x y : A) (refused : ℕ → A) → n ≡ m → (n ≡ 0 → x ≡ y) → given n x refused ≡ given m y refused
@@ -60,7 +63,7 @@ given-same n m x y refused e h = under n h ∙ ap (λ (k : ℕ). given k y refus
     under zero h = h refl
     under (suc k) h = rw (eqb·suc-zero k)
 
-module _ (s t : List ℕ) (w : Alike s t) where
+module _ (s t : List ℕ) (w : Alike s t) (days : AlikeDays s t) where
   refusal-same : refusalOf s ≡ refusalOf t
   refusal-same = w .first ∙ sym (w .second)
 
@@ -86,7 +89,7 @@ module _ (s t : List ℕ) (w : Alike s t) where
 
   day-first : (i : ℕ) → i < countOf s 2 → numberIn (rowOf places s 2 i) 0 ≡ numberIn (rowOf places t 2 i) 0
   unfolding dayOf dayFrom
-  day-first i l = ap (λ (r : Day). r .mjd) (w .day i l)
+  day-first i l = ap (λ (r : Day). r .mjd) (days i l)
 
   station-by : (z : ℤ) → hasId s 0 z ≡ true → stationBy s z ≡ stationBy t z
   station-by z e = w .station (placeBy s 0 z) (ltb-true _ _ e) ∙ ap (stationOf t) (place-same 0 (omega arith) station-first z)
@@ -95,7 +98,7 @@ module _ (s t : List ℕ) (w : Alike s t) where
   source-by z e = w .source (placeBy s 1 z) (ltb-true _ _ e) ∙ ap (sourceOf t) (place-same 1 (omega arith) source-first z)
 
   day-by : (z : ℤ) → hasId s 2 z ≡ true → reducedOf (dayBy s z) ≡ reducedOf (dayBy t z)
-  day-by z e = w .day (placeBy s 2 z) (ltb-true _ _ e) ∙ ap (λ (i : ℕ). reducedOf (dayOf t i)) (place-same 2 (omega arith) day-first z)
+  day-by z e = days (placeBy s 2 z) (ltb-true _ _ e) ∙ ap (λ (i : ℕ). reducedOf (dayOf t i)) (place-same 2 (omega arith) day-first z)
 
   there-same : (a b r : ℤ) → allThere s a b r ≡ allThere t a b r
   there-same a b r =
@@ -206,10 +209,15 @@ pub record FiveSame (a b : Day) : Type 0 where
   pub ut1-utc : a .«ut1_utc» ≡ b .«ut1_utc»
   pub tai-utc : a .«tai_utc» ≡ b .«tai_utc»
 
--- a record of a file of kind 3, and one of the same five numbers that is marked 0 in a file of kind 5
-pub days-unmarked : (s t : List ℕ) (i : ℕ) → refusalOf s ≡ 0 → kindOf s 2 ≡ 3 → FiveSame (dayOf s i) (dayOf t i) → dayOf t i .mark ≡ pos 0
-    → reducedOf (dayOf s i) ≡ reducedOf (dayOf t i)
-days-unmarked s t i h k f m =
+-- of a file of kind 3 and of one with the same five numbers a day, all marked 0
+pub record Unmarked (s t : List ℕ) : Type 0 where
+  pub three : kindOf s 2 ≡ 3
+  pub five-same : (i : ℕ) → i < countOf s 2 → FiveSame (dayOf s i) (dayOf t i)
+  pub marks : (i : ℕ) → i < countOf s 2 → dayOf t i .mark ≡ pos 0
+
+pub unmarked-days : (s t : List ℕ) → refusalOf s ≡ 0 → Unmarked s t → AlikeDays s t
+unmarked-days s t h u i l =
+    let f = u .five-same i l in
     ap reducedOf
     (λ j.
     record {
@@ -218,9 +226,16 @@ days-unmarked s t i h k f m =
       y = f .y j;
       «ut1_utc» = f .ut1-utc j;
       «tai_utc» = f .tai-utc j;
-      mark = (day-unmarked s h i k ∙ sym m) j;
+      mark = (day-unmarked s h i (u .three) ∙ sym (u .marks i l)) j;
     })
 
+-- so a file of kind 5 whose marks are 0 has the delays, and the samples, of the file of kind 3 with the same records
+pub kinds-agree : (s t : List ℕ) → Alike s t → Unmarked s t → (a b r day ms : ℤ) → delayOutcome s a b r day ms ≡ delayOutcome t a b r day ms
+kinds-agree s t w u = delay-alike s t w (unmarked-days s t (w .first) u)
+
+pub kinds-agree-room : (s t : List ℕ) → Alike s t → Unmarked s t → (i : ℕ) (room : List ℤ) → samplesRoom s i room ≡ samplesRoom t i room
+kinds-agree-room s t w u = room-alike s t w (unmarked-days s t (w .first) u)
+
 -- a record marked 1, and the one marked 0 whose UT1-UTC is less by the tide
-pub days-less-tide : (a b : Day) → a .mark ≡ pos 1 → b ≡ lessTide a → reducedOf a ≡ reducedOf b
-days-less-tide a b m e = reduced-marked a m ∙ sym (reduced-unmarked (lessTide a) refl) ∙ ap reducedOf (sym e)
+pub less-tide : (a b : Day) → a .mark ≡ pos 1 → b ≡ lessTide a → reducedOf a ≡ reducedOf b
+less-tide a b m e = reduced-marked a m ∙ sym (reduced-unmarked (lessTide a) refl) ∙ ap reducedOf (sym e)
