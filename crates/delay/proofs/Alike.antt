@@ -3,18 +3,19 @@
 use mathlib.Core.Path.{_≡_, refl, sym, ap, ap₂, _∙_}
 use mathlib.Core.Bool.{true, not, _&&_}
 use mathlib.Core.List.{List, [], _∷_, _++_}
-use Prim.Native.Nat.{ℕ, zero, suc, _≤_, _<_}
+use Prim.Native.Nat.{ℕ, _≤_, _<_}
 use native.Mathlib.Decide.{decLt}
 use native.Mathlib.Omega.{arith}
 use borrow.Author.Tests.{ltb-true}
-use lib.Dec.{leb, ltb, eqb·suc-zero}
+use lib.Dec.{leb, ltb}
 use lib.ListN.{length, drop}
 use lib.IntN.{ℤ, pos, _+ℤ_}
-use Rattle.whole.specs.Answers.{given, number, noNumber}
+use Rattle.whole.specs.Answers.{number, noNumber}
 use Rattle.whole.specs.Each.{firstNot}
 use Rattle.whole.specs.Ranges.{eqZ}
 use Rattle.whole.specs.Refusals.{unless, lowest}
 use Rattle.whole.specs.Values.{firstValues}
+use Rattle.whole.proofs.Answers.{given-same}
 use Rattle.whole.proofs.Each.{first-same, all-same, below-each}
 use Rattle.whole.proofs.Linear.{and-true}
 use Rattle.whole.proofs.Refusals.{first-zero, unless-zero}
@@ -53,15 +54,6 @@ pub record Alike (s t : List ℕ) : Type 0 where
 -- their days give the same UT1R
 abbrev pub AlikeDays : List ℕ → List ℕ → Type 0
 AlikeDays s t = (i : ℕ) → i < countOf s 2 → reducedOf (dayOf s i) ≡ reducedOf (dayOf t i)
-
--- answers by the same number
-given-same : {A : Type 0} (n m : ℕ) (x y : A) (refused : ℕ → A) → n ≡ m → (n ≡ 0 → x ≡ y) → given n x refused ≡ given m y refused
-unfolding given
-given-same n m x y refused e h = under n h ∙ ap (λ (k : ℕ). given k y refused) e
-  where
-    under : (k : ℕ) → (k ≡ 0 → x ≡ y) → given k x refused ≡ given k y refused
-    under zero h = h refl
-    under (suc k) h = rw (eqb·suc-zero k)
 
 module _ (s t : List ℕ) (w : Alike s t) (days : AlikeDays s t) where
   refusal-same : refusalOf s ≡ refusalOf t

@@ -3,7 +3,6 @@
 mod single;
 mod together;
 
-use delay::no_number;
 use sections::refusal::count_of;
 use sections::refusal::refusal_of;
 use single::track_in;
@@ -11,6 +10,7 @@ use together::first_refused;
 use together::no_tracks;
 use together::write_tracks;
 use whole::Number;
+use whole::no_number;
 ghost use Rattle.fringe.specs.Promises.{PassTrackPromise, AllTracksPromise};
 
 // A refusal, and how many segments each pass has: 0 beyond the last, and for all where refused.

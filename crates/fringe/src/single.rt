@@ -4,11 +4,11 @@ ghost use Prim.Native.Nat.{_<_};
 ghost use lib.ListN.{length};
 ghost use Rattle.sections.specs.File.{refusalOf, countOf};
 ghost use Rattle.fringe.specs.Promises.{PassTrackPromise};
-use delay::no_number;
 use delay::pass_samples;
 use session::records::pass_of;
 use track::track;
 use whole::Number;
+use whole::no_number;
 
 // Writes the track of pass i to the start of the room, and answers how many segments it has. The samples are written to a place that is lent for them.
 pub fn track_in(file: &[u8], i: usize, samples: &mut [i64], room: &mut [i64]) -> Number

@@ -40,9 +40,10 @@ source = record { kind = 2; fields = idNumber ∷ rightAscension ∷ declination
 abbrev pub orientation : Layout
 orientation = record { kind = 3; fields = mjd ∷ pole ∷ pole ∷ ut1utc ∷ taiutc ∷ []; fewest = 2; most = 64; order = consecutive }
 
--- document 02, L4: the five of kind 3, and the mark
+-- document 02, L4: as kind 3, with the mark for a sixth number
 abbrev pub marked : Layout
-marked = record { kind = 5; fields = mjd ∷ pole ∷ pole ∷ ut1utc ∷ taiutc ∷ mark ∷ []; fewest = 2; most = 64; order = consecutive }
+marked =
+    record { kind = 5; fields = orientation .fields ++ (mark ∷ []); fewest = orientation .fewest; most = orientation .most; order = orientation .order }
 
 -- "station 1, station 2, source, MJD, u, step ms, samples, tolerance ps"
 abbrev pub pass : Layout

@@ -1,5 +1,5 @@
 -- Laws of `given`, and of `answerBy`. Assumes nothing.
-use mathlib.Core.Path.{_≡_, refl}
+use mathlib.Core.Path.{_≡_, refl, ap, _∙_}
 use Prim.Native.Nat.{ℕ, zero, suc}
 use lib.Dec.{eqb·suc-zero}
 use lib.IntN.{ℤ, pos}
@@ -13,6 +13,15 @@ given-yes n right refused h = rw (eq-eqb n 0 h)
 pub given-no : {A : Type 0} (n : ℕ) (right : A) (refused : ℕ → A) → (n ≡ 0 → ⊥) → given n right refused ≡ refused n
 unfolding given
 given-no n right refused h = rw (ne-eqb n 0 h)
+
+-- the same number and, where it is 0, the same answer
+pub given-same : {A : Type 0} (n m : ℕ) (x y : A) (refused : ℕ → A) → n ≡ m → (n ≡ 0 → x ≡ y) → given n x refused ≡ given m y refused
+unfolding given
+given-same n m x y refused e h = under n h ∙ ap (λ (k : ℕ). given k y refused) e
+  where
+    under : (k : ℕ) → (k ≡ 0 → x ≡ y) → given k x refused ≡ given k y refused
+    under zero h = h refl
+    under (suc k) h = rw (eqb·suc-zero k)
 
 -- what holds of both holds of what is given
 pub given-each : {A : Type 0} (P : A → Type 0) (n : ℕ) (right : A) (refused : ℕ → A) → (n ≡ 0 → P right) → P (refused n) → P (given n right refused)

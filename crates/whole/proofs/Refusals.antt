@@ -28,14 +28,16 @@ from-low low (suc n ∷ ns) (some high l f r) g = by (lowest ns) (from-low high 
     by zero h = f (λ e. omega arith) .0
     by (suc m) h = omega (arith, f (λ e. omega arith) .0, h (λ e. omega arith))
 
+-- the first of two numbers comes first where the second is none, or no lower
+pub lower-first : (n m : ℕ) → ((m ≡ 0 → ⊥) → suc n ≤ m) → lowerOf (suc n) m ≡ suc n
+lower-first n zero h = refl
+lower-first n (suc m) h = omega (arith, h (λ e. omega arith))
+
 ordered : (low : ℕ) (ns : List ℕ) → InOrder low ns → lowest ns ≡ firstOf ns
 ordered low [] end = refl
 ordered low (zero ∷ ns) (some high l f r) = ordered high ns r
-ordered low (suc n ∷ ns) (some high l f r) = by (lowest ns) (from-low high ns r)
-  where
-    by : (m : ℕ) → ((m ≡ 0 → ⊥) → high ≤ m) → lowerOf (suc n) m ≡ suc n
-    by zero h = refl
-    by (suc m) h = omega (arith, f (λ e. omega arith) .1, h (λ e. omega arith))
+ordered low (suc n ∷ ns) (some high l f r) =
+    lower-first n (lowest ns) (λ g. omega (arith, f (λ e. omega arith) .1, from-low high ns r g))
 
 pub in-order : {low : ℕ} {ns : List ℕ} → InOrder low ns → lowest ns ≡ firstOf ns
 in-order {low = low} {ns = ns} r = ordered low ns r

@@ -1,6 +1,6 @@
 -- `write` with days of kind 3: its number, test by test. Assumes nothing.
 use mathlib.Core.Path.{_≡_, refl, sym, _∙_}
-use Prim.Native.Nat.{ℕ, zero, suc, _*_, _/_, _≤_}
+use Prim.Native.Nat.{ℕ, _*_, _/_, _≤_}
 use native.Mathlib.Omega.{arith}
 use mathlib.Core.Bool.{true, false}
 use mathlib.Core.List.{List, [], _∷_}
@@ -11,7 +11,7 @@ use borrow.Author.Tests.{eq-eqb, leb-true}
 use Rattle.whole.specs.Each.{allBelow}
 use Rattle.whole.specs.Refusals.{unless, lowerOf, lowest}
 use Rattle.whole.proofs.Linear.{and-true, no-ft}
-use Rattle.whole.proofs.Refusals.{unless-zero, lower-zero}
+use Rattle.whole.proofs.Refusals.{unless-zero, lower-zero, lower-first}
 use Rattle.sections.specs.Layouts.{places, layoutIn, standsIn}
 use Rattle.sections.specs.File.{refusalOf}
 use Rattle.sections.proofs.Shapes.{today}
@@ -19,16 +19,6 @@ use Rattle.writer.specs.Writing.{kindsWith, listRight, listsRight, unmar
 use Rattle.writer.proofs.Counts.{lists-right}
 use Rattle.writer.proofs.Made.{one-for-lists}
 use Rattle.writer.proofs.WithoutMarks.{kept-long}
-
--- 1 comes before all others, and 2 before all but 1
-one-first : (n : ℕ) → lowerOf 1 n ≡ 1
-one-first zero = refl
-one-first (suc n) = omega arith
-
-two-first : (n : ℕ) → (n ≡ 1 → ⊥) → lowerOf 2 n ≡ 2
-two-first zero f = refl
-two-first (suc zero) f = absurd (f refl)
-two-first (suc (suc n)) f = omega arith
 
 -- ---- lists with six numbers for a day, and the same with five
 
@@ -60,7 +50,7 @@ module _ (p q r t : List ℤ) where
   module _ (room : ℕ) where
     pub three-lists : listsRight places (kindsWith 5) (p ∷ q ∷ r ∷ t ∷ []) ≡ false → writeNumber (pos 3) p q r t room ≡ 1
     unfolding writeNumber
-    three-lists h = rw h (one-first (lowest (unless (unmarked r) 2 ∷ refusalOf (fileWith (pos 3) p q r t) ∷ unless (leb (length (fileWith (pos 3) p q r t)) room) 7 ∷ [])))
+    three-lists h = rw h (lower-first 0 (lowest (unless (unmarked r) 2 ∷ refusalOf (fileWith (pos 3) p q r t) ∷ unless (leb (length (fileWith (pos 3) p q r t)) room) 7 ∷ [])) (λ g. omega (arith, g)))
 
     module _ (s : listsRight places (kindsWith 5) (p ∷ q ∷ r ∷ t ∷ []) ≡ true) where
       -- a mark, and what `write_as` would say
@@ -69,7 +59,10 @@ module _ (p q r t : List ℤ) where
       three-both = rw (s, lists-three s)
 
       pub three-marks : unmarked r ≡ false → writeNumber (pos 3) p q r t room ≡ 2
-      three-marks u = three-both ∙ rw u (two-first _ (λ e. no-ft (sym (one-for-lists _ _ room e) ∙ lists-three s)))
+      three-marks u =
+          let m = writeRefusal places (kindsWith 3) (p ∷ q ∷ withoutMarks r ∷ t ∷ []) room in
+          let not-one : (m ≡ 1 → ⊥) = λ e. no-ft (sym (one-for-lists _ _ room e) ∙ lists-three s) in
+          three-both ∙ rw u (lower-first 1 m (λ g. omega (arith, g, not-one)))
 
       pub three-file : unmarked r ≡ true → writeNumber (pos 3) p q r t room ≡ writeRefusal places (kindsWith 3) (p ∷ q ∷ withoutMarks r ∷ t ∷ []) room
       three-file u = three-both ∙ rw u

@@ -2,10 +2,9 @@
 ghost use mathlib.Core.Path.{_≡_};
 ghost use mathlib.Core.Bool.{true};
 ghost use mathlib.Core.List.{[], _∷_};
-ghost use Prim.Native.Nat.{_+_, _*_, _≤_, _<_};
+ghost use Prim.Native.Nat.{_+_, _*_, _≤_};
 ghost use lib.ListN.{length};
 ghost use lib.IntN.{pos};
-ghost use Rattle.whole.specs.Answers.{noNumber};
 ghost use Rattle.text.specs.Bytes.{pasted, wordsOf, bytesOfAll};
 ghost use Rattle.text.specs.Put.{Put};
 ghost use Rattle.sections.specs.Layouts.{places};
@@ -25,6 +24,7 @@ use sections::refusal::refusal_of;
 use text::bytes::put_numbers;
 use text::bytes::put_words;
 use whole::Number;
+use whole::no_number;
 use whole::sign::number;
 
 // The kinds that the four places are to have.
@@ -90,7 +90,7 @@ pub fn write_as(
 {
     let refusal = judged(k, stations, sources, days, passes, room.len());
     if refusal != 0 {
-        return refused(refusal);
+        return no_number(refusal);
     }
     let n = encode(room, k, stations, sources, days, passes);
     Number {
@@ -111,17 +111,6 @@ fn kinds_with(third: usize) -> Kinds
     }
 }
 
-// The answer of a refused call.
-fn refused(n: usize) -> Number
-    requires { ⌜ n < 65536 ⌝ }
-    ensures { λ r. ⌜ r ≡ noNumber n ⌝ }
-{
-    Number {
-        refusal: number(n),
-        value: 0,
-    }
-}
-
 // The file with days of kind 3, which has no marks: five numbers of each record stand in it.
 fn write_unmarked(
     stations: &[i64],
@@ -133,10 +122,10 @@ fn write_unmarked(
     ensures { λ w. ⌜ WritePromise (pos 3) (now (stations .entry)) (now (sources .entry)) (now (days .entry)) (now (passes .entry)) (now (room .entry)) w (now (room .exit)) ⌝ }
 {
     if !lists_right(kinds_with(5), stations, sources, days, passes) {
-        return refused(1);
+        return no_number(1);
     }
     if !unmarked(days) {
-        return refused(2);
+        return no_number(2);
     }
     let mut five = [0i64; 320];
     let n = put_unmarked(&mut five, days);
@@ -161,7 +150,7 @@ pub fn write(
         return write_as(kinds_with(5), stations, sources, days, passes, room);
     }
     if !others_right(stations, sources, passes) {
-        return refused(1);
+        return no_number(1);
     }
-    refused(2)
+    no_number(2)
 }

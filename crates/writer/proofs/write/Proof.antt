@@ -43,24 +43,24 @@ returns-2 c =
 others-right-requires : tie.Need-others-right-requires
 others-right-requires c κs = search needs
 
-refused-requires : tie.Need-refused-requires
-refused-requires c κs = search needs
+no-number-requires : tie.Need-no-number-requires
+no-number-requires c κs = search needs
 
 returns-3 : tie.Need-returns-3
 returns-3 c =
     let st = c .before .before in
     let a = st .before .before .before .before .args in
-    refused-by (a .day-kind) _ _ _ _ (a .room .now) 0 (c .refused .ensures)
+    refused-by (a .day-kind) _ _ _ _ (a .room .now) 0 (c .no-number .ensures)
     (other-lists (a .day-kind) _ _ _ _ _ (other-by (a .day-kind) (st .before .before .if1 .left) (st .before .if2 .left)) (failed (st .others-right .ensures) (c .before .if3 .taken)))
 
-refused-requires-2 : tie.Need-refused-requires-2
-refused-requires-2 c κs = search needs
+no-number-requires-2 : tie.Need-no-number-requires-2
+no-number-requires-2 c κs = search needs
 
 returns-4 : tie.Need-returns-4
 returns-4 c =
     let st = c .before .before in
     let a = st .before .before .before .before .args in
-    refused-by (a .day-kind) _ _ _ _ (a .room .now) 1 (c .refused2 .ensures)
+    refused-by (a .day-kind) _ _ _ _ (a .room .now) 1 (c .no-number2 .ensures)
     (other-kind (a .day-kind) _ _ _ _ _ (other-by (a .day-kind) (st .before .before .if1 .left) (st .before .if2 .left)) (passed (st .others-right .ensures) (c .before .if3 .left)))
 
 pub write-spec : {M : Type 1} → statement M
@@ -75,7 +75,7 @@ write-spec =
     same-length-2
     returns-2
     others-right-requires
-    refused-requires
+    no-number-requires
     returns-3
-    refused-requires-2
+    no-number-requires-2
     returns-4)

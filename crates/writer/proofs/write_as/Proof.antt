@@ -19,15 +19,15 @@ use Rattle.writer.proofs.write_as.Tie as tie
 judged-requires : tie.Need-judged-requires
 judged-requires c κs = search needs
 
-refused-requires : tie.Need-refused-requires
-refused-requires c κs = search needs
+no-number-requires : tie.Need-no-number-requires
+no-number-requires c κs = search needs
 
 returns : tie.Need-returns
 returns c =
     let n = c .before .before .judged in
     let a = c .before .before .before .before .args in
     let h : (writeRefusal places (a .k) (a .stations .now ∷ a .sources .now ∷ a .days .now ∷ a .passes .now ∷ []) (length (a .room .now)) ≡ 0 → ⊥) = λ z. c .before .if1 .taken (n .ensures .0 ∙ z) in
-    (c .refused .ensures ∙ ap noNumber (n .ensures .0) ∙ sym (answer-none today _ _ (a .room .now) h), sym (room-stays today _ _ (a .room .now) h))
+    (c .no-number .ensures ∙ ap noNumber (n .ensures .0) ∙ sym (answer-none today _ _ (a .room .now) h), sym (room-stays today _ _ (a .room .now) h))
 
 encode-requires : tie.Need-encode-requires
 encode-requires c κs =
@@ -55,7 +55,7 @@ write-as-spec =
     tie.close
     (tie.spec
     judged-requires
-    refused-requires
+    no-number-requires
     returns
     encode-requires
     number-requires

@@ -16,28 +16,28 @@ kinds-with-requires c κs = search needs
 lists-right-requires : tie.Need-lists-right-requires
 lists-right-requires c κs = search needs
 
-refused-requires : tie.Need-refused-requires
-refused-requires c κs = search needs
+no-number-requires : tie.Need-no-number-requires
+no-number-requires c κs = search needs
 
 returns : tie.Need-returns
 returns c =
     let st = c .before .before in
     let a = st .before .before .before .args in
-    refused-by (pos 3) _ _ _ _ (a .room .now) 0 (c .refused .ensures)
+    refused-by (pos 3) _ _ _ _ (a .room .now) 0 (c .no-number .ensures)
     (three-lists (a .stations .now) (a .sources .now) (a .days .now) (a .passes .now) _ (failed (rw (st .before .kinds-with .ensures) at (st .lists-right .ensures)) (c .before .if1 .taken)))
 
 unmarked-requires : tie.Need-unmarked-requires
 unmarked-requires c κs = search needs
 
-refused-requires-2 : tie.Need-refused-requires-2
-refused-requires-2 c κs = search needs
+no-number-requires-2 : tie.Need-no-number-requires-2
+no-number-requires-2 c κs = search needs
 
 returns-2 : tie.Need-returns-2
 returns-2 c =
     let st = c .before .before .before .before in
     let a = st .before .before .before .args in
     let s = passed (rw (st .before .kinds-with .ensures) at (st .lists-right .ensures)) (c .before .before .before .if1 .left) in
-    refused-by (pos 3) _ _ _ _ (a .room .now) 1 (c .refused2 .ensures)
+    refused-by (pos 3) _ _ _ _ (a .room .now) 1 (c .no-number2 .ensures)
     (three-marks (a .stations .now) (a .sources .now) (a .days .now) (a .passes .now) _ s (failed (c .before .before .unmarked .ensures) (c .before .if2 .taken)))
 
 slice-aggregate-put-unmarked : tie.Need-slice-aggregate-put-unmarked
@@ -90,10 +90,10 @@ write-unmarked-spec =
     (tie.spec
     kinds-with-requires
     lists-right-requires
-    refused-requires
+    no-number-requires
     returns
     unmarked-requires
-    refused-requires-2
+    no-number-requires-2
     returns-2
     slice-aggregate-put-unmarked
     put-unmarked-requires

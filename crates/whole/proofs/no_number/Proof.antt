@@ -1,10 +1,10 @@
--- `delay::refused::no_number` meets its contract.
+-- `whole::no_number` meets its contract.
 use mathlib.Core.Path.{_∙_}
 use borrow.Author.Needs.{needs}
 use lib.IntN.{pos}
 use Rattle.whole.proofs.Linear.{ret}
-use Rattle.delay.proofs.refused.no_number.Statement.{statement}
-use Rattle.delay.proofs.refused.no_number.Tie as tie
+use Rattle.whole.proofs.no_number.Statement.{statement}
+use Rattle.whole.proofs.no_number.Tie as tie
 
 number-requires : tie.Need-number-requires
 number-requires c κs = search needs
