@@ -38,6 +38,11 @@ def row_angle_cut_off(multipliers, arguments):
     return min(max(sum(m * a for m, a in zip(multipliers, arguments)), 0), TURN - 1)
 
 
+def row_angle_by(number):
+    """The row angle with another number of times for each multiplier."""
+    return lambda multipliers, arguments: sum(number(m) * a for m, a in zip(multipliers, arguments)) % TURN
+
+
 def angle_with(day_added, divide):
     def angle_e(day, f):
         turned = 27_768_836_730_832_276 + 273_781_191_135_448 * (day + day_added - 51_544)
@@ -56,6 +61,8 @@ WRONG = (
     ("a row too few", earth, "tide_at", tide_with_rows(earth.TIDE_ROWS[1:], 1_000)),
     ("the tide without its 1,000", earth, "tide_at", tide_with_rows(earth.TIDE_ROWS, 1)),
     ("a row's sum not wrapped", earth, "row_angle", row_angle_cut_off),
+    ("a column added once for twice", earth, "row_angle", row_angle_by(lambda m: min(max(m, -1), 1))),
+    ("a column's sign lost", earth, "row_angle", row_angle_by(abs)),
     ("the angle of the next day", earth, "angle_e", angle_with(1, lambda a, b: a // b)),
     ("milliseconds of f toward zero", earth, "angle_e", angle_with(0, toward_zero)),
     ("later days not carried", earth, "later_epoch", lambda day, ms, add: (day, (ms + add) % earth.DAY_MS)),

@@ -2,10 +2,12 @@
 use crate::ticks::Delaunay;
 use crate::ticks::arguments_at;
 use std::num::wrapping_add_u32;
+use std::num::wrapping_sub_u32;
 use whole::divide::round_div;
+use whole::sign::size;
 ghost use mathlib.Core.Path.{_≡_};
-ghost use Prim.Native.Nat.{_^_, _≤_, _<_};
-ghost use lib.IntN.{pos, _*ℤ_};
+ghost use Prim.Native.Nat.{_+_, _*_, _%_, _^_, _≤_, _<_};
+ghost use lib.IntN.{pos, _+ℤ_, _*ℤ_};
 ghost use Rattle.whole.specs.Whole.{∣_∣, modZ};
 ghost use Rattle.earth.specs.Rows.{rows};
 ghost use Rattle.earth.specs.TideInUT1.{amplitude, rowAngle, rowTerm, rowsSum, sizes, Few, AllFew, tideAt};
@@ -55,23 +57,54 @@ const TABLE: [[i64; 6]; 41] = [
     [-1, -1, 0, 2, 0, -9],
 ];
 
-// A multiplier times an argument, wrapping at 2^32. The bias is 1,024·2^32: it is beyond any such product, and wraps to 0.
-fn times(multiplier: i64, tick: u32) -> u32
-    requires { ⌜ ∣ multiplier ∣ ≤ 1000 ⌝ }
-    ensures { λ r. ⌜ r ≡ modZ (multiplier *ℤ pos tick) (2 ^ 32) ⌝ }
+// The sum with an argument added as often as asked, wrapping at 2^32.
+fn plus(sum: u32, times: u64, argument: u32) -> u32
+    ensures { λ r. ⌜ r ≡ (sum + times * argument) % 2 ^ 32 ⌝ }
 {
-    ((multiplier * (tick as i64) + 4_398_046_511_104) as u64 % 4_294_967_296) as u32
+    let mut sum = sum;
+    let mut i = 0;
+    while i < times {
+        sum = wrapping_add_u32(sum, argument);
+        i += 1;
+    }
+    sum
 }
 
-// The sum of multiplier times argument, wrapping at 2^32.
+// The sum with an argument subtracted as often as asked, wrapping at 2^32.
+fn minus(sum: u32, times: u64, argument: u32) -> u32
+    ensures { λ r. ⌜ (r + times * argument) % 2 ^ 32 ≡ sum ⌝ }
+{
+    let mut sum = sum;
+    let mut i = 0;
+    while i < times {
+        sum = wrapping_sub_u32(sum, argument);
+        i += 1;
+    }
+    sum
+}
+
+// The sum with one column more: its argument added as often as the multiplier says, or subtracted as often where that is negative.
+// Each branch takes the size by itself: the compiler then finds one product for both.
+fn with_column(sum: u32, multiplier: i64, argument: u32) -> u32
+    ensures { λ r. ⌜ r ≡ modZ (pos sum +ℤ multiplier *ℤ pos argument) (2 ^ 32) ⌝ }
+{
+    if multiplier < 0 {
+        minus(sum, size(multiplier), argument)
+    } else {
+        plus(sum, size(multiplier), argument)
+    }
+}
+
+// The five columns from left to right, as printed: 2 0 2 0 1 makes l + l + F + F + Ω.
 pub fn row_angle(row: [i64; 6], a: Delaunay) -> u32
     requires { ⌜ Few row ⌝ }
     ensures { λ r. ⌜ r ≡ rowAngle row a ⌝ }
 {
-    let sum = wrapping_add_u32(times(row[0], a.l), times(row[1], a.lp));
-    let sum = wrapping_add_u32(sum, times(row[2], a.f));
-    let sum = wrapping_add_u32(sum, times(row[3], a.d));
-    wrapping_add_u32(sum, times(row[4], a.om))
+    let sum = with_column(0, row[0], a.l);
+    let sum = with_column(sum, row[1], a.lp);
+    let sum = with_column(sum, row[2], a.f);
+    let sum = with_column(sum, row[3], a.d);
+    with_column(sum, row[4], a.om)
 }
 
 // A·sine of one row.
