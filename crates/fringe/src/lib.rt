@@ -31,8 +31,7 @@ pub fn pass_track(file: &[u8], pass: usize, room: &mut [i64]) -> Number
     if count_of(file, 3) <= pass {
         return no_number(5);
     }
-    let mut samples = [0i64; 4096];
-    track_in(file, pass, &mut samples, room)
+    track_in(file, pass, room)
 }
 
 // Writes the tracks of all passes from the start of the room, each behind the last, and answers how many segments each has. Nothing is written before it is

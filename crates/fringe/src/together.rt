@@ -70,9 +70,8 @@ fn taken_by(file: &[u8], i: usize, ample: bool) -> Taken
             segments: most_segments(p),
         };
     }
-    let mut samples = [0i64; 4096];
     let mut room = [0i64; 8192];
-    let r = track_in(file, i, &mut samples, &mut room);
+    let r = track_in(file, i, &mut room);
     Taken {
         lacking: size(r.refusal) as usize,
         segments: size(r.value) as usize,
@@ -111,12 +110,11 @@ pub fn write_tracks(file: &[u8], passes: usize, room: &mut [i64]) -> [i64; 64]
     requires { ⌜ inTurn (now file) passes 0 (now room) .refusal ≡ 0 ⌝ }
     ensures { λ r. ⌜ (r ≡ inTurn (now (file .entry)) passes 0 (now (room .entry)) .counts ++ replicate (64 - passes) (pos 0)) × (now (room .exit) ≡ inTurn (now (file .entry)) passes 0 (now (room .entry)) .room) ⌝ }
 {
-    let mut samples = [0i64; 4096];
     let mut counts = [0i64; 64];
     let mut at: usize = 0;
     let mut i: usize = 0;
     while i < passes {
-        let r = track_in(file, i, &mut samples, &mut room[at..]);
+        let r = track_in(file, i, &mut room[at..]);
         let m = r.value;
         counts[i] = m;
         at += 4 * size(m) as usize;

@@ -33,6 +33,7 @@ use Rattle.track.specs.Made.{segOf, segsOf, trackOf}
 use Rattle.track.specs.Answer.{inRange, written}
 use Rattle.track.proofs.Answers.{always-enough}
 use Rattle.fringe.specs.PassTrack.{passSamples, passOutcome}
+use Rattle.fringe.proofs.Passes.{samples-are}
 use Rattle.text.specs.Decimal.{digitsBy, digitsOf, decimal}
 use Rattle.text.specs.Table.{lineOf, rowLine, rowLines}
 use Rattle.lines.specs.Text.{passLine, outcomeText, passText, passTexts, sessionText}
@@ -99,10 +100,10 @@ module _ (s : List ℕ) (o : OneStationTwice s) where
   clear : samplesNumber s 0 4096 ≡ 0
   clear = rw (named, covered) at (number-by s (o .accepted) 0 (some 3 0 (o .passes)))
 
-  samples-are : passSamples s 0 ≡ zeros
-  unfolding passSamples firstValues
-  samples-are =
-      rw count-is
+  samples-zero : passSamples s 0 ≡ zeros
+  unfolding firstValues
+  samples-zero =
+      rw (samples-are s 0 clear, count-is)
       (values-same 3 (sampleIn s (passOf s 0)) (λ (j : ℕ). pos 0) (λ j l. sample-same s (passOf s 0) j (o .first ∙ sym (o .second))))
 
   pub prints-in-whole : sessionText s ≡ inWhole
@@ -110,7 +111,7 @@ module _ (s : List ℕ) (o : OneStationTwice s) where
   prints-in-whole =
       let room = replicate (4 * 2048) (pos 0) in
       let d : 2048 ≤ length room / 4 = omega (arith, length-replicate (4 * 2048) (pos 0)) in
-      rw (o .accepted, o .passes, clear, samples-are, o .tolerance, always-enough zeros (pos 0) room zeros-in d, zeros-track) (two-lines room)
+      rw (o .accepted, o .passes, clear, samples-zero, o .tolerance, always-enough zeros (pos 0) room zeros-in d, zeros-track) (two-lines room)
 
 -- ---- one such file
 

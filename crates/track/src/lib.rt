@@ -2,9 +2,11 @@
 // specs/Segments.antt says what a track is, specs/Rule.antt which one is made, specs/Answer.antt what the call answers,
 // specs/Fewest.antt what demand 3 says of a call.
 ghost use Rattle.track.specs.Promises.{TrackPromise};
+pub use make::make_track;
 use whole::Number;
 
 mod count;
+mod make;
 mod range;
 mod write;
 
@@ -18,19 +20,5 @@ pub fn track(samples: &[i64], tolerance: i64, room: &mut [i64]) -> Number
             value: 0,
         };
     }
-    let mut counts: [u16; 2048] = [0; 2048];
-    let mut rates: [u64; 2048] = [0; 2048];
-    let t = tolerance as u64;
-    let m = count::count_segments(samples, t, &mut counts, &mut rates);
-    if room.len() / 4 < m {
-        return Number {
-            refusal: 8,
-            value: 0,
-        };
-    }
-    write::write_segments(samples, t, &counts, &rates, room);
-    Number {
-        refusal: 0,
-        value: m as i64,
-    }
+    make_track(samples, tolerance, room)
 }

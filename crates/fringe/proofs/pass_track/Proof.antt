@@ -4,8 +4,7 @@ use mathlib.Core.Path.{_≡_, sym, ap, _∙_}
 use mathlib.Core.List.{List}
 use Prim.Native.Nat.{ℕ, _≤_}
 use native.Mathlib.Omega.{arith}
-use lib.IntN.{ℤ, pos}
-use lib.ListN.{length-replicate}
+use lib.IntN.{ℤ}
 use Rattle.whole.specs.declared.Number.{Number}
 use Rattle.whole.specs.Answers.{noNumber}
 use Rattle.sections.specs.File.{refusalOf, countOf}
@@ -53,13 +52,10 @@ returns-2 c =
     let l : countOf (x .file .now) 3 ≤ x .pass = rw (k .count-of .ensures .0) at (c .before .if2 .taken) in
     gives (x .file .now) (x .pass) (x .room .now) (c .no-number2 .result) 5 (c .no-number2 .ensures) (beyond-number (x .file .now) (x .pass) 4096 (accepted (k .before)) l) (λ z. omega arith)
 
-slice-aggregate-track-in : tie.Need-slice-aggregate-track-in
-slice-aggregate-track-in c = search needs
-
 track-in-requires : tie.Need-track-in-requires
 track-in-requires c κs =
-    let e = c .before .before in
-    (accepted (e .before .before), rw (e .before .count-of .ensures .0) at (e .if2 .left), length-replicate 4096 (pos 0))
+    let e = c .before in
+    (accepted (e .before .before), rw (e .before .count-of .ensures .0) at (e .if2 .left))
 
 same-length : tie.Need-same-length
 same-length c = search needs
@@ -77,7 +73,6 @@ pass-track-spec =
     count-of-requires
     no-number-requires-2
     returns-2
-    slice-aggregate-track-in
     track-in-requires
     same-length
     returns-3)

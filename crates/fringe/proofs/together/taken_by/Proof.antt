@@ -57,11 +57,8 @@ returns c =
 slice-aggregate-track-in : tie.Need-slice-aggregate-track-in
 slice-aggregate-track-in c = search needs
 
-slice-aggregate-track-in-2 : tie.Need-slice-aggregate-track-in-2
-slice-aggregate-track-in-2 c = search needs
-
 track-in-requires : tie.Need-track-in-requires
-track-in-requires c κs = let s = c .before .before .before .before in (s .pre .0, s .pre .1, length-replicate 4096 (pos 0))
+track-in-requires c κs = let s = c .before .before .before in (s .pre .0, s .pre .1)
 
 size-requires : tie.Need-size-requires
 size-requires c κs = search needs
@@ -71,8 +68,8 @@ size-requires-2 c κs = search needs
 
 returns-2 : tie.Need-returns-2
 returns-2 c =
-    let t = c .before .before .before .before .before .before in
-    let s = t .before .before .before .before .before in
+    let t = c .before .before .before .before .before in
+    let s = t .before .before .before .before in
     let f = s .args .file .now in
     let i = s .args .i in
     let room = replicate 8192 (pos 0) in
@@ -87,7 +84,7 @@ returns-2 c =
       λ z. c .size2 .ensures
           ∙ ap ∣_∣ (ret (t .track-in .result .value) (c .before .struct-told2 .given .1 .0 .1) ∙ ap (λ (n : Number). n .value) answer ∙ lent-count f (s .pre .0) i (s .pre .1) room m (sym number ∙ z))
           ∙ size-pos (segmentsIn f i)
-          ∙ sym (ap (takenBy f i) (t .before .before .before .if1 .left)),
+          ∙ sym (ap (takenBy f i) (t .before .before .if1 .left)),
     )
 
 pub taken-by-spec : {M : Type 1} → statement M
@@ -99,7 +96,6 @@ taken-by-spec =
     most-segments-requires
     returns
     slice-aggregate-track-in
-    slice-aggregate-track-in-2
     track-in-requires
     size-requires
     size-requires-2

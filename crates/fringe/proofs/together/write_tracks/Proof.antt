@@ -5,7 +5,7 @@ use mathlib.Core.List.{List, _++_}
 use Prim.Native.Nat.{ℕ, _+_, _*_, _-_, _≤_, _<_}
 use native.Mathlib.Omega.{arith}
 use lib.IntN.{ℤ, pos}
-use lib.ListN.{length, take, drop, length-drop, length-set, length-replicate}
+use lib.ListN.{length, take, drop, length-drop, length-set}
 use mir.Syntax.{w64}
 use mir.Val.{toZ, ofZ}
 use Rattle.whole.specs.Whole.{∣_∣}
@@ -21,26 +21,22 @@ use Rattle.fringe.proofs.together.write_tracks.Statement.{statement}
 use Rattle.fringe.proofs.together.write_tracks.Tie as tie
 
 abbrev Inv-loop : tie.InvT-loop
-Inv-loop file passes room₀ samples₀ counts₀ at₀ i₀ room samples counts at i =
-    (i ≤ passes) × (at ≤ length room) × (length room ≡ length room₀) × (length counts ≡ 64)
-    × WrittenTo file passes room₀ room counts at i × (length samples ≡ 4096)
+Inv-loop file passes room₀ counts₀ at₀ i₀ room counts at i =
+    (i ≤ passes) × (at ≤ length room) × (length room ≡ length room₀) × (length counts ≡ 64) × WrittenTo file passes room₀ room counts at i
 
 abbrev μ-loop : tie.MeasureT-loop
-μ-loop file passes room₀ samples₀ counts₀ at₀ i₀ room samples counts at i = passes - i
+μ-loop file passes room₀ counts₀ at₀ i₀ room counts at i = passes - i
 
 loop-holds : tie.Need-loop-holds Inv-loop μ-loop
 loop-holds c =
     let x = c .before .args in
-    (omega arith, omega arith, refl, refl, written-none (x .file .now) (x .passes) (x .room .now) (c .before .pre .1), length-replicate 4096 (pos 0))
-
-slice-aggregate-track-in : tie.Need-slice-aggregate-track-in Inv-loop μ-loop
-slice-aggregate-track-in c = search needs
+    (omega arith, omega arith, refl, refl, written-none (x .file .now) (x .passes) (x .room .now) (c .before .pre .1))
 
 mul-track-in : tie.Need-mul-track-in Inv-loop μ-loop
 mul-track-in c = search needs
 
 sub-track-in : tie.Need-sub-track-in Inv-loop μ-loop
-sub-track-in c = c .before .before .loop .inv .1
+sub-track-in c = c .before .loop .inv .1
 
 part-track-in-start : tie.Need-part-track-in-start Inv-loop μ-loop
 part-track-in-start c = search needs
@@ -65,13 +61,13 @@ module _ (c : tie.In-loop Inv-loop μ-loop) where
   few = omega (arith, there, few-passes file (start .pre .0 .0))
 
 track-in-requires : tie.Need-track-in-requires Inv-loop μ-loop
-track-in-requires c κs = let l = c .before .before in (start l .pre .0 .0, there l, l .before .loop .inv .5)
+track-in-requires c κs = let l = c .before in (start l .pre .0 .0, there l)
 
 mul-counts : tie.Need-mul-counts Inv-loop μ-loop
-mul-counts c = record { fits = omega (arith, few (c .before .before .before .before .before .before)) }
+mul-counts c = record { fits = omega (arith, few (c .before .before .before .before)) }
 
 array-set-from-counts : tie.Need-array-set-from-counts Inv-loop μ-loop
-array-set-from-counts c = few (c .before .before .before .before .before .before)
+array-set-from-counts c = few (c .before .before .before .before)
 
 size-requires : tie.Need-size-requires Inv-loop μ-loop
 size-requires c κs = search needs
@@ -79,7 +75,7 @@ size-requires c κs = search needs
 -- the outcome of the call, on the rest of the room
 module _ (c : tie.After-struct-told Inv-loop μ-loop) where
   abbrev l : tie.In-loop Inv-loop μ-loop
-  l = c .before .before .before .before .before .before
+  l = c .before .before .before .before
 
   abbrev room : List ℤ
   room = l .before .loop .room
@@ -88,9 +84,9 @@ module _ (c : tie.After-struct-told Inv-loop μ-loop) where
   at = l .before .loop .at
 
   abbrev call : tie.After-track-in Inv-loop μ-loop
-  call = c .before .before .before
+  call = c .before .before
 
-  outcome-is : _≡_ {A = Outcome} (record { answer = call .track-in .result; room = call .track-in .last .1 .1 .1 .0 }) (passOutcome (file l) (i l) (drop at room))
+  outcome-is : _≡_ {A = Outcome} (record { answer = call .track-in .result; room = call .track-in .last .1 .1 .0 }) (passOutcome (file l) (i l) (drop at room))
   outcome-is = call .track-in .ensures ∙ ap (passOutcome (file l) (i l)) (rest-lent at room)
 
   value-is : toZ w64 (ofZ w64 (call .track-in .result .value)) ≡ passOutcome (file l) (i l) (drop at room) .answer .value
@@ -141,9 +137,8 @@ loop-again c =
       same ∙ a .inv .2,
       length-set (a .counts) (a .i) _ ∙ a .inv .3,
       written-more (file x) (s .pre .0 .0) (s .args .passes) (i x) (x .loop-test .taken) (all-there b) (s .args .room .now) (room b) (a .counts) (at b) (a .inv .4) (a .inv .1) _
-          (rest-back (at b) (room b) (call b .track-in .last .1 .1 .1 .0) ∙ ap (λ (o : Outcome). take (at b) (room b) ++ o .room) (outcome-is b))
+          (rest-back (at b) (room b) (call b .track-in .last .1 .1 .0) ∙ ap (λ (o : Outcome). take (at b) (room b) ++ o .room) (outcome-is b))
           _ (c .size .result) _ _ (few x) (a .inv .3) (value-is b) (segments-are c) refl refl,
-      search needs,
     )
 
 same-length : tie.Need-same-length Inv-loop μ-loop
@@ -163,7 +158,6 @@ write-tracks-spec =
     Inv-loop
     μ-loop
     loop-holds
-    slice-aggregate-track-in
     mul-track-in
     sub-track-in
     part-track-in-start
