@@ -43,6 +43,12 @@ def of_each_kind(known):
     return sorted(smallest.values(), key=lambda question: (question.lent or b"", question))
 
 
+def of_tracks():
+    """Document 01's. Its 1,025 samples are asked in two rooms alone: `rt try` has 10,000,000 steps for all that is asked here."""
+    small = [asked for given in track.SMALL for asked in track.in_rooms(*given)]
+    return [*small, *track.in_rooms(*track.LONG, more=(0, -1))]
+
+
 def of_two_stations():
     """Orientation, a delay and samples that are not 0, of two stations over a midnight."""
     file = chosen.passes_refused_and_not()
@@ -63,4 +69,4 @@ def of_marks():
 def short(known):
     of_two_passes = together.in_rooms(together.ROUGH, together.CALM)
     chosen_ones = [*of_two_stations(), *of_two_passes, *of_marks()]
-    return [*earth.document(), *track.document_questions(), *chosen_ones, *of_each_kind(known)]
+    return [*earth.document(), *of_tracks(), *chosen_ones, *of_each_kind(known)]

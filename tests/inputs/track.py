@@ -8,7 +8,9 @@ from .lent import questions as of_lent_tracks
 from .questions import TRACK, Question, lent_numbers
 from .samples import broken, rough, smooth, some_samples, some_tolerance
 
-DOCUMENT = [([0, 10, 20], 0), ([0, 0, 1], 0), ([0, 0, 1], 1), ([0, 10, 0], 5), ([0, 10, 0], 4), ([0] * 1_025, 0)]
+SMALL = [([0, 10, 20], 0), ([0, 0, 1], 0), ([0, 0, 1], 1), ([0, 10, 0], 5), ([0, 10, 0], 4)]
+LONG = ([0] * 1_025, 0)
+DOCUMENT = [*SMALL, LONG]
 
 
 def question(samples, tolerance, room):
@@ -20,12 +22,10 @@ def needed(samples, tolerance):
     return 4 * len(track.track_of(samples, tolerance))
 
 
-def document_questions():
-    for samples, tolerance in DOCUMENT:
-        need = needed(samples, tolerance)
-        for room in (need, need - 1, need - 4, need + 1, need + 2, need + 3, need + 8):
-            yield question(samples, tolerance, room)
-    yield question([], 0, 8)
+def in_rooms(samples, tolerance, more=(0, -1, -4, 1, 2, 3, 8)):
+    """In rooms that have so many numbers more than the track takes."""
+    need = needed(samples, tolerance)
+    return [question(samples, tolerance, need + each) for each in more]
 
 
 def in_every_room():
@@ -68,7 +68,8 @@ def at_the_limits():
 def questions(seed=6_106, tracks=1_500):
     numbers = random.Random(seed)
     return [
-        *document_questions(),
+        *(asked for given in DOCUMENT for asked in in_rooms(*given)),
+        question([], 0, 8),
         *at_the_limits(),
         *long_tracks(numbers),
         *(some_question(numbers) for _ in range(tracks)),
