@@ -4,7 +4,6 @@ from functools import cache
 
 from reference import session, together
 
-ENOUGH_ROOM = 8_192
 COUNTS = {1: "one pass", 2: "two passes", 64: "64 passes"}
 
 
@@ -17,7 +16,7 @@ def most_segments(*passes):
 def passes_alone(file):
     """Each pass of an accepted file by itself in enough room: its refusal, its segments, and as many as it can have."""
     lists = session.sections_of(file)
-    alone = [together.pass_track_of(lists, planned, [0] * ENOUGH_ROOM) for planned in lists[3]]
+    alone = [together.pass_track_of(lists, planned, [0] * together.ENOUGH_ROOM) for planned in lists[3]]
     return [(number, segments, most_segments(planned)) for (number, segments, _), planned in zip(alone, lists[3])]
 
 

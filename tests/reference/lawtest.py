@@ -185,13 +185,34 @@ def own_tracks_are_well_formed(tally, random):
         tally.nothing_wrong("own track, samples within %d, tolerance %d:" % (size, tolerance), wrong)
 
 
+def two_calls(file, index, room, sample_room=track.MOST_SAMPLES):
+    """The calls of document 01 for a pass, one after the other: its samples, in so much room, and their track."""
+    number, count, samples = delay.samples(file, index, [-7] * sample_room)
+    if number:
+        return (number, 0, room)
+    *_, tolerance = session.record_at(file, delay.PASSES, index)
+    return track.track(samples[:count], tolerance, room)
+
+
+def passes_in_one_step(tally, random):
+    """Document 02, L6: as the two calls in any sample room that is enough, so never 7. A pass in a room is one test, and so
+    is the index behind the last.
+    """
+    for i in range(100):
+        lists = some_session(random)
+        file, counts = session.encode(lists), [*(planned[6] for planned in lists[delay.PASSES]), 0]
+        for index, count in enumerate(counts):
+            room, some = [-7] * random.randint(0, 2 * count + 6), random.randint(count, track.MOST_SAMPLES)
+            answers = [two_calls(file, index, room, sample_room) for sample_room in (count, some, track.MOST_SAMPLES)]
+            name = "pass %d of session %d in %d and %d" % (index, i, len(room), some)
+            tally.equal(name, [together.pass_track(file, index, room)] * 3, [each for each in answers if each[0] != 7])
+
+
 def one_by_one(file, room):
-    """The two calls of document 01 for pass after pass, each in what is left of the room: number, counts, room afterwards."""
+    """The two calls for pass after pass, each in what is left of the room: number, counts, room afterwards."""
     counts, at, after = [], 0, list(room)
-    for index, planned in enumerate(session.sections_of(file)[delay.PASSES]):
-        number, taken, samples = delay.samples(file, index, [0] * track.MOST_SAMPLES)
-        if number == 0:
-            number, count, part = track.track(samples[:taken], planned[7], after[at:])
+    for index in range(len(session.sections_of(file)[delay.PASSES])):
+        number, count, part = two_calls(file, index, after[at:])
         if number:
             return (number, [0] * 64, room)
         after[at:], at = part, at + 4 * count
@@ -288,7 +309,7 @@ def run(tally):
     short_decimals(tally)
     for part in (sine_near_its_sum, sine_turned, angle_near_its_fraction):
         part(tally, numbers)
-    for part in (swapped_stations, small_tracks, own_tracks_are_well_formed, passes_together):
+    for part in (swapped_stations, small_tracks, own_tracks_are_well_formed, passes_together, passes_in_one_step):
         part(tally, numbers)
     for part in (decimals_read, rows_written, unasked_rows):
         part(tally, numbers)

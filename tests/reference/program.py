@@ -6,16 +6,14 @@ number.
 
 import sys
 
-from . import delay, session, track
+from . import delay, session, together, track
 
 
 def lines_of_pass(lists, index):
-    planned = lists[delay.PASSES][index]
-    number, samples = delay.samples_of(lists, planned)
+    number, count, room = together.pass_track_of(lists, lists[delay.PASSES][index], [0] * together.ENOUGH_ROOM)
     if number:
         return ["refused %d" % number]
-    segments = track.track_of(samples, planned[7])
-    return ["pass %d %d" % (index, len(segments))] + ["%d %d %d %d" % segment for segment in segments]
+    return ["pass %d %d" % (index, count)] + ["%d %d %d %d" % segment for segment in track.segments_of(room[:4 * count])]
 
 
 def lines(file):

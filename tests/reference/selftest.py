@@ -68,6 +68,9 @@ def the_program(tally):
     tally.equal("tracks of nothing", program.lines(b""), ["refused 1"])
     tally.equal("tracks of over-long input", program.lines(file + bytes(65_536)), ["refused 1"])
     tally.equal("samples of the small session", delay.samples(file, 0, [5] * 4), (0, 3, [0, 0, 0, 5]))
+    tally.equal("pass track of the small session", together.pass_track(file, 0, [5] * 5), (0, 1, [0, 3, 0, 0, 5]))
+    tally.equal("the same in short room", together.pass_track(file, 0, [5] * 3), (8, 0, [5] * 3))
+    tally.equal("pass track of a pass that is not there", together.pass_track(file, 1, [5] * 3), (5, 0, [5] * 3))
     tally.equal("all tracks of the small session", together.all_tracks(file, [5] * 5), (0, [1] + [0] * 63, [0, 3, 0, 0, 5]))
 
 

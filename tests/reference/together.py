@@ -1,8 +1,10 @@
-"""The tracks of all passes of a session together: document 02, L2. Pass after pass, each behind the last."""
+"""The track of a pass in one step, document 02, L6; of all passes together, L2: pass after pass, each behind the last."""
 
 from . import delay, session, track
 
 MOST_PASSES = 64
+# For the track of any pass: two samples always fit a segment, which is four numbers.
+ENOUGH_ROOM = 4 * track.MOST_SAMPLES // 2
 
 
 def pass_track_of(lists, planned, room):
@@ -11,6 +13,14 @@ def pass_track_of(lists, planned, room):
     if number:
         return (number, 0, room)
     return track.track(samples, planned[7], room)
+
+
+def pass_track(file, index, room):
+    """Refusal, segments written, and the room (a list of numbers) afterwards: what `delay.samples`, in room for every
+    sample, and then `track.track` answer.
+    """
+    number, *planned = session.record_at(file, delay.PASSES, index)
+    return (number, 0, room) if number else pass_track_of(session.sections_of(file), planned, room)
 
 
 def counts_of(counts):
@@ -35,6 +45,6 @@ def all_tracks_of(lists, room):
 
 
 def all_tracks(file, room):
-    """Refusal, the 64 counts, and the room (a list of numbers) afterwards."""
+    """Refusal, the 64 counts, and the room afterwards."""
     number = session.refusal(file)
     return refused(number, room) if number else all_tracks_of(session.sections_of(file), room)
