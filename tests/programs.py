@@ -13,6 +13,7 @@ import inputs.earth
 import inputs.lending
 import inputs.program
 import inputs.session
+import inputs.single
 import inputs.together
 import inputs.track
 import inputs.write
@@ -26,6 +27,7 @@ TOPICS = {
     "delay": inputs.delay,
     "track": inputs.track,
     "together": inputs.together,
+    "single": inputs.single,
     "bulletin": inputs.bulletin,
 }
 

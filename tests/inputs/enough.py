@@ -7,8 +7,8 @@ from itertools import combinations, permutations, product
 import programs
 from reference import rowwords, session
 
-from . import earth, features, marktraps, rowtraps, sharing, short
-from .questions import DAYS_FROM_ROWS, ORIENTATION, answered
+from . import earth, features, marktraps, passtraps, rowtraps, sharing, short, single
+from .questions import DAYS_FROM_ROWS, ORIENTATION, answered, refusal
 from .rows import FIELDS, VALUES
 
 # What becomes of a marked record's UT1-UTC, or would by another TAI-UTC.
@@ -67,6 +67,18 @@ TOGETHER = (
     *("ample from the first pass on", "ample from a later pass on", "never ample"),
     *("no room", "room for the first pass alone", "a segment short", "a number short", "just enough"),
     *("just ample", "a number short of ample", "numbers behind the last whole segment"),
+)
+
+# And of each of these in the questions on a single pass.
+SINGLE = (
+    *("tracked with %d" % number for number in (0, 1, 2, 3, 4, 5, 6, 8)),
+    *("%d in room for no segment" % number for number in (1, 2, 3, 4, 5, 6, 8)),
+    *("beyond the last pass", "a name and a day that are not there"),
+    *("only %s unlike the first pass's" % part for part in passtraps.PARTS),
+    *("%d samples" % count for count in single.LENGTHS),
+    *("no room", "a segment short", "a number short", "just enough", "numbers behind the last whole segment"),
+    *("days of kind 3", *("marks %d, %d" % marks for marks in product((0, 1), repeat=2))),
+    *("pass over midnight with marks", "pass over a midnight at which the mark changes"),
 )
 
 # And of each of these in the questions on rows.
@@ -154,6 +166,12 @@ def passes_together(tally):
     tally.nothing_wrong("enough of passes together", too_few(counts, dict.fromkeys(TOGETHER, 10)))
 
 
+def single_passes(tally):
+    made = [(question, refusal(question, lines)) for question, lines in programs.questions("single")]
+    counts = Counter(trap for question, number in made for trap in passtraps.traps(question, number))
+    tally.nothing_wrong("enough of single passes", too_few(counts, dict.fromkeys(SINGLE, 10)))
+
+
 def rows_read_and_written(tally):
     """Of the texts there are 1,000, too."""
     made = {question for question, _ in programs.questions("bulletin")}
@@ -188,6 +206,7 @@ def run(tally):
     questions_of_earth(tally)
     marks_and_kinds(tally)
     passes_together(tally)
+    single_passes(tally)
     rows_read_and_written(tally)
     runs_of_days(tally)
     each_kind_of_answer(tally)

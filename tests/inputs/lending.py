@@ -4,7 +4,7 @@ from reference.selftest import small_session
 
 from .questions import CHECK, DAYS_FROM_ROWS, FAULT, MOST_LENT, MOST_ROOM, PREDICT, WRITE, Question, lent_numbers
 
-NO_CALLS = (0, 24, -1, 2**63 - 1, -(2**63))
+NO_CALLS = (0, 25, -1, 2**63 - 1, -(2**63))
 TRACK_OF_ONE = lent_numbers([0, 1, 65_536, 0])
 
 

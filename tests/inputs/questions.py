@@ -16,16 +16,19 @@ from reference.sine import cosine, sine
 SINE, COSINE, ARGUMENTS, TIDE, ANGLE, LATER, ROTATE = range(1, 8)
 CHECK, FAULT, STATION, SOURCE, DAY, PASS = range(8, 14)
 ORIENTATION, DELAY, SAMPLES, WRITE, TRACK, PREDICT, HOST, ALL_TRACKS = range(14, 22)
-DAYS_FROM_ROWS, ROWS_FROM_DAYS = range(22, 24)
+DAYS_FROM_ROWS, ROWS_FROM_DAYS, PASS_TRACK = range(22, 25)
 
 NAMES = dict(enumerate(
     "sine cosine arguments tide angle_at later rotate check fault station_at source_at day_at pass_at "
-    "orientation delay samples write track predict host_at all_tracks days_from_rows rows_from_days".split(), 1,
+    "orientation delay samples write track predict host_at all_tracks days_from_rows rows_from_days pass_track".split(), 1,
 ))
 
 HEAD_BYTES = 64
 MOST_LENT = 66_560
-MOST_ROOM = {SAMPLES: 8_200, TRACK: 8_200, WRITE: 16_384, ALL_TRACKS: 8_200, ROWS_FROM_DAYS: 16_384}
+MOST_ROOM = {
+    **dict.fromkeys((SAMPLES, TRACK, ALL_TRACKS, PASS_TRACK), 8_200),
+    **dict.fromkeys((WRITE, ROWS_FROM_DAYS), 16_384),
+}
 FILLED_NUMBER, FILLED_BYTE = 0x5555_5555_5555_5555, 165
 SAME_AS_BEFORE = -1
 
@@ -90,8 +93,14 @@ def record(place):
     return lambda q: [line(session.record_at(q.lent, place, index(q.a)))]
 
 
-def samples(q):
-    number, count, room = delay.samples(q.lent, index(q.a), [FILLED_NUMBER] * q.room)
+def filled_room(q):
+    """A room of numbers before the call."""
+    return [FILLED_NUMBER] * q.room
+
+
+def with_room(answer):
+    """The lines of a refusal, a count, and the room of numbers after the call."""
+    number, count, room = answer
     return [line((number, count)), line(room)]
 
 
@@ -107,13 +116,8 @@ def write(q):
     return [line((number, count)), room.hex()]
 
 
-def tracked(q):
-    number, count, room = track.track(numbers_lent(q.lent), q.a, [FILLED_NUMBER] * q.room)
-    return [line((number, count)), line(room)]
-
-
 def all_tracks(q):
-    number, counts, room = together.all_tracks(q.lent, [FILLED_NUMBER] * q.room)
+    number, counts, room = together.all_tracks(q.lent, filled_room(q))
     return [line((number, *counts)), line(room)]
 
 
@@ -148,14 +152,15 @@ CALLS = {
     PASS: record(3),
     ORIENTATION: lambda q: [line(delay.orientation(q.lent, q.a, q.b))],
     DELAY: lambda q: [line(delay.delay(q.lent, *q[1:6]))],
-    SAMPLES: samples,
+    SAMPLES: lambda q: with_room(delay.samples(q.lent, index(q.a), filled_room(q))),
     WRITE: write,
-    TRACK: tracked,
+    TRACK: lambda q: with_room(track.track(numbers_lent(q.lent), q.a, filled_room(q))),
     PREDICT: lambda q: [line(track.predict(numbers_lent(q.lent), index(q.a)))],
     HOST: host,
     ALL_TRACKS: all_tracks,
     DAYS_FROM_ROWS: days_from_rows,
     ROWS_FROM_DAYS: rows_from_days,
+    PASS_TRACK: lambda q: with_room(together.pass_track(q.lent, index(q.a), filled_room(q))),
 }
 
 

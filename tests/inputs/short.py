@@ -1,9 +1,9 @@
-"""The questions of crates/answers/stdin: document 01's, some delays and marks, and of each call one for each number it gives."""
+"""The questions of crates/answers/stdin: document 01's, some delays, tracks and marks, and of each call one for each number it gives."""
 
 from reference import session
 
 from . import chosen, earth, together, track, write
-from .questions import CHECK, DAY, DELAY, FAULT, NAMES, ORIENTATION, SAMPLES, Question, refusal
+from .questions import CHECK, DAY, DELAY, FAULT, NAMES, ORIENTATION, PASS_TRACK, SAMPLES, Question, refusal
 
 # The numbers that documents 01 and 02 let each call give, beside an answer.
 GIVEN = {
@@ -14,7 +14,7 @@ GIVEN = {
     "orientation": (1, 2, 3, 4, 6), "delay": (1, 2, 3, 4, 5, 6), "samples": (1, 2, 3, 4, 5, 6, 7),
     "write": (1, 2, 3, 4, 7),
     "track": (2, 8), "predict": (9,), "host_at": (9,), "all_tracks": (1, 2, 3, 4, 5, 6, 8),
-    "days_from_rows": (1, 2, 10, 11), "rows_from_days": (2, 7),
+    "days_from_rows": (1, 2, 10, 11), "rows_from_days": (2, 7), "pass_track": (1, 2, 3, 4, 5, 6, 8),
 }
 
 
@@ -50,18 +50,20 @@ def of_tracks():
 
 
 def of_two_stations():
-    """Orientation, a delay and samples that are not 0, of two stations over a midnight."""
+    """Orientation, a delay, samples and tracks that are not 0, of two stations over a midnight."""
     file = chosen.passes_refused_and_not()
     yield Question(ORIENTATION, 60_000, 86_399_000, lent=file)
     yield from (Question(DELAY, *names, 1, 60_000, 86_399_000, lent=file) for names in ((10, 20), (20, 10)))
     yield from (Question(SAMPLES, index, room=6, lent=file) for index in range(5))
+    yield from (Question(PASS_TRACK, index, room=6, lent=file) for index in range(4))
 
 
 def of_marks():
-    """A file of kind 5: a day, and what it gives over a midnight; a mark that is none; marks written in kind 5 and in kind 3."""
+    """A file of kind 5: a day, and what it gives about midnight and noon; a mark that is none; marks written in either kind."""
     file, small = chosen.marked_passes(1, 0, 1), chosen.small_marked(1, 0)
     yield from (Question(CHECK, lent=file), Question(DAY, 0, lent=file))
     yield from (Question(ORIENTATION, 60_000, 86_399_000, lent=file), Question(SAMPLES, 0, room=5, lent=file))
+    yield Question(PASS_TRACK, 2, room=5, lent=file)
     yield Question(FAULT, lent=chosen.small_marked(1, 2))
     yield from (write.question(kind, write.flats_of(session.sections_of(small)), len(small)) for kind in (5, 3))
 

@@ -74,13 +74,19 @@ def seeded(numbers, each):
             yield from numbers.sample(in_rooms(*some_passes(numbers, count, longest)), 3)
 
 
-def of_files(numbers):
-    """Session files in all the room that they can need, and in a part of it; those of many samples are left out."""
+def short_files():
+    """Each session file and its passes, none of a refused one; files of many samples are left out."""
     for file in map(lent, generate.files()):
         passes = [] if session.refusal(file) else session.sections_of(file)[3]
         if sum(planned[6] for planned in passes) <= FEW_SAMPLES:
-            ample = 4 * most_segments(*passes)
-            yield from (question(file, room) for room in (ample + numbers.randrange(9), numbers.randint(0, ample)))
+            yield (file, passes)
+
+
+def of_files(numbers):
+    """Session files in all the room that they can need, and in a part of it."""
+    for file, passes in short_files():
+        ample = 4 * most_segments(*passes)
+        yield from (question(file, room) for room in (ample + numbers.randrange(9), numbers.randint(0, ample)))
 
 
 def questions(seed=7_202):

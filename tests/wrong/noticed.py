@@ -13,7 +13,7 @@ from inputs.program import printed
 from inputs.questions import lines_of
 from tally import alone
 
-from . import bulletin, days, delay, earth, marks, program, rowlists, session, together, track, write
+from . import bulletin, days, delay, earth, marks, program, rowlists, session, single, together, track, write
 
 WRONG = {
     "earth": earth.WRONG,
@@ -22,6 +22,7 @@ WRONG = {
     "delay": (*delay.WRONG, *marks.WRONG),
     "track": track.WRONG,
     "together": together.WRONG,
+    "single": single.WRONG,
     "bulletin": (*bulletin.WRONG, *rowlists.WRONG),
     "tracks": program.WRONG,
     "days": days.WRONG,

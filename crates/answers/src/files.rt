@@ -1,9 +1,9 @@
-// Questions on the records, the days and the delays of a session file, 8 to 16.
+// Questions on a session file, 8 to 16 and 24: its records, days, delays, and the track of a pass.
 use crate::numbers::Head;
 use crate::numbers::index;
 use crate::print::print_number;
 use crate::print::print_numbers;
-use crate::rooms::samples_with_room;
+use crate::rooms::pass_with_room;
 
 fn check(file: &[u8]) {
     let a = session::check(file);
@@ -84,7 +84,7 @@ pub(crate) fn answer(head: Head, file: &[u8]) {
         9 => fault(file),
         14 => orientation(file, head.a, head.b),
         15 => delay_of(head, file),
-        16 => samples_with_room(file, index(head.a), index(head.room)),
+        16 | 24 => pass_with_room(head, file),
         _ => record_at(what, file, index(head.a)),
     }
 }

@@ -29,6 +29,8 @@ fn answer(head: Head, file: &[u8]) {
         rows::days_from_rows(head, file);
     } else if what == 23 {
         lists::answer(head, file);
+    } else if what == 24 {
+        files::answer(head, file);
     }
 }
 

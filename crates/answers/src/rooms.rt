@@ -9,11 +9,20 @@ use crate::print::print_number;
 use crate::print::print_numbers;
 use whole::sign::size;
 
-pub(crate) fn samples_with_room(file: &[u8], pass: usize, m: usize) {
+// The samples of a pass, 16, or its track.
+fn of_pass(what: i64, file: &[u8], pass: usize, room: &mut [i64]) -> whole::Number {
+    if what == 16 {
+        return delay::samples(file, pass, room);
+    }
+    fringe::pass_track(file, pass, room)
+}
+
+pub(crate) fn pass_with_room(head: Head, file: &[u8]) {
     let mut space = [6148914691236517205i64; 8200];
+    let m = index(head.room);
     if m <= 8200 {
         let room = &mut space[0..m];
-        print_number(delay::samples(file, pass, room));
+        print_number(of_pass(head.what, file, index(head.a), room));
         print_numbers(room);
     }
 }
