@@ -3,7 +3,7 @@ use fringe::Tracks;
 use predict::Host;
 use whole::Number;
 ghost use Rattle.track.specs.Promises.{TrackPromise};
-ghost use Rattle.fringe.specs.Promises.{AllTracksPromise};
+ghost use Rattle.fringe.specs.Promises.{PassTrackPromise, AllTracksPromise};
 ghost use Rattle.predict.specs.Promises.{PredictPromise, HostPromise};
 
 #[no_mangle]
@@ -11,6 +11,13 @@ pub extern "C" fn fringe_track(samples: &[i64], tolerance: i64, room: &mut [i64]
     ensures { λ r. ⌜ TrackPromise (now (samples .entry)) tolerance (now (room .entry)) r (now (room .exit)) ⌝ }
 {
     track::track(samples, tolerance, room)
+}
+
+#[no_mangle]
+pub extern "C" fn fringe_pass_track(file: &[u8], pass: usize, room: &mut [i64]) -> Number
+    ensures { λ r. ⌜ PassTrackPromise (now (file .entry)) pass (now (room .entry)) r (now (room .exit)) ⌝ }
+{
+    fringe::pass_track(file, pass, room)
 }
 
 #[no_mangle]
