@@ -5,15 +5,17 @@
  * delay of each sample of a pass, and a track: a row of straight segments, the fewest that keep to all of the samples.
  *
  *     struct fringe_counts counts = fringe_check(file, file_bytes);            1. is the file right?
- *     struct fringe_pass pass = fringe_pass_at(file, file_bytes, 0);           2. what its first pass asks for
- *     struct fringe_number taken = fringe_samples(file, file_bytes, 0, samples, FRINGE_MOST_SAMPLES);
- *     struct fringe_number made = fringe_track(samples, (size_t)taken.value, pass.tolerance, track,
- *                                              FRINGE_MOST_TRACK_NUMBERS);     3. its samples, and their track
+ *     struct fringe_pass pass = fringe_pass_at(file, file_bytes, 0);           2. when its first pass starts, its step
+ *     struct fringe_number made = fringe_pass_track(file, file_bytes, 0, track, FRINGE_MOST_TRACK_NUMBERS);
+ *                                                                              3. the track of this pass
  *     struct fringe_host now = fringe_host_at(track, FRINGE_SEGMENT_NUMBERS * (size_t)made.value, 7);
  *                                                                              4. the delay at sample 7, from the track
  *
  *     struct fringe_tracks all = fringe_all_tracks(file, file_bytes, room, FRINGE_ALL_TRACKS_NUMBERS);
  *                                                                              or the tracks of all passes, in one call
+ *
+ *     struct fringe_number taken = fringe_samples(file, file_bytes, 0, samples, FRINGE_MOST_SAMPLES);
+ *                                                                              for a plot: the delays of its samples
  *
  *     struct fringe_days read = fringe_days_from_rows(text, text_bytes, first, count, tai_utc, count);
  *                                                                              days for a file, from the IERS's text;
@@ -28,9 +30,9 @@
  *   For the second, PKG_CONFIG_PATH has PREFIX/lib/pkgconfig. On another processor it takes a cross compiler for x86-64
  *   and an emulator, as examples/run-host shows. This header is C99, C11 or C++17. The archive needs memcpy and memset
  *   of the C library, no other. It keeps nothing between calls, so calls may run at the same time. The stack that a
- *   call takes, as measured and rounded up: fringe_all_tracks 165,000 bytes, fringe_days_from_rows 76,000, fringe_track
- *   63,000, fringe_write 19,000, fringe_tide, fringe_orientation, fringe_delay and fringe_samples 3,400,
- *   fringe_rows_from_days 1,000, each of the others 400.
+ *   call takes, as measured and rounded up: fringe_all_tracks 165,000 bytes, fringe_pass_track 97,000,
+ *   fringe_days_from_rows 76,000, fringe_track 63,000, fringe_write 19,000, fringe_tide, fringe_orientation,
+ *   fringe_delay and fringe_samples 3,400, fringe_rows_from_days 1,000, each of the others 400.
  *
  * Lent memory
  *   NULL may not be passed, not even with length 0. For an empty slice pass fringe_no_numbers() or fringe_no_bytes().
@@ -154,14 +156,14 @@
 #include <stdint.h>
 
 /* the version; as a number to compare it is 10,000 times the first, and 100 times the second, and the third */
-#define FRINGE_VERSION "0.4.0"
-#define FRINGE_VERSION_NUMBER 400
+#define FRINGE_VERSION "0.5.0"
+#define FRINGE_VERSION_NUMBER 500
 
 /* ---- Limits */
 
 /* of samples and tracks */
 #define FRINGE_MOST_SAMPLES 4096          /* samples of a pass, and of a track */
-#define FRINGE_MOST_SEGMENTS 2048         /* segments of a track that fringe_track makes: more it never needs */
+#define FRINGE_MOST_SEGMENTS 2048         /* segments of a track that the library makes: more it never needs */
 #define FRINGE_MOST_SEGMENT_SAMPLES 1024  /* samples of a segment */
 #define FRINGE_SEGMENT_NUMBERS 4          /* numbers of a segment: first sample, samples, offset, rate */
 #define FRINGE_MOST_TRACK_NUMBERS 8192    /* numbers of FRINGE_MOST_SEGMENTS: a room that is always enough */
@@ -439,8 +441,9 @@ struct fringe_number fringe_delay(const uint8_t *file, size_t file_bytes, int64_
 				  int64_t source, int64_t day, int64_t ms);
 
 /*
- * The delays of a pass's samples, by the pass's index, counted from 0. Sample i, counted from 0, is the delay at the
- * pass's epoch with i times its step added. value: samples written; FRINGE_MOST_SAMPLES are always enough.
+ * The delays of a pass's samples, by the pass's index, counted from 0. They are for plotting, and for looking at a
+ * pass: whoever wants its track asks fringe_pass_track. Sample i, counted from 0, is the delay at the pass's epoch with
+ * i times its step added. value: samples written; FRINGE_MOST_SAMPLES are always enough.
  * Refusals: 1 to 4; 5 where the pass, or a station or the source that it names, is not there; 6 where any sample's
  * epoch lacks its day or the day after; 7.
  */
@@ -450,47 +453,61 @@ struct fringe_number fringe_samples(const uint8_t *file, size_t file_bytes, uint
 /* ---- Tracks */
 
 /*
- * The track of samples, each within FRINGE_MOST_DELAY either side, 1 to FRINGE_MOST_SAMPLES of them, with a tolerance
- * from 0 to FRINGE_MOST_TOLERANCE. Four numbers of the room go to a segment: first sample, samples (1 to 1,024), offset
- * A, rate r. Numbers of the room behind its last whole segment are not used. value: segments written, so 4 times as
- * many numbers.
- * A segment fits if A + r j lies within 65,536 times the tolerance of 65,536 times its sample j, for each j from 0. The
- * first segment starts at sample 0, each other where the one before it ends, and the last ends at the last sample. Each
- * is the longest that fits from its start; its r is the least that fits, 0 for a single sample, and its A the least for
- * that r. So no track whose every segment fits has fewer segments.
- * Refusals: 2; and 8 exactly if no track fits the room. FRINGE_MOST_TRACK_NUMBERS are always enough.
+ * A track is a row of segments, with four numbers to each: first sample, samples (1 to 1,024), offset A, rate r. A
+ * segment fits if A + r j lies within 65,536 times the tolerance of 65,536 times its sample j, for each j from 0. The
+ * first segment starts at sample 0, each other where the one before it ends, and the last ends at the last sample.
+ * Of a track that the library makes each segment is the longest that fits from its start; its r is the least that fits,
+ * 0 for a single sample, and its A the least for that r. So no track whose every segment fits has fewer segments. For n
+ * samples it never has more than (n + 1) / 2 of them, rounded down.
+ * Numbers of the room behind its last whole segment are not used. Behind the last segment that is written the room
+ * stays as it was, and after a refusal all of it does.
+ */
+
+/*
+ * The track of a pass, by the pass's index, counted from 0: the way from a session to a track. Its samples are the
+ * delays that fringe_samples gives, for which you lend no memory, and the tolerance is the pass's own. value: segments
+ * written, so 4 times as many numbers; FRINGE_MOST_TRACK_NUMBERS are always enough.
+ * Refusals: 1 to 6 as fringe_samples gives them; then 8, exactly if no track fits the room. 7 is never given.
+ */
+struct fringe_number fringe_pass_track(const uint8_t *file, size_t file_bytes, uint64_t pass,
+				       int64_t *room, size_t room_numbers);
+
+/*
+ * The track of samples that come from elsewhere: each within FRINGE_MOST_DELAY either side, 1 to FRINGE_MOST_SAMPLES of
+ * them, with a tolerance from 0 to FRINGE_MOST_TOLERANCE. For a pass of a session ask fringe_pass_track. value, and the
+ * room that is always enough: as there. Refusals: 2; and 8 exactly if no track fits the room.
  */
 struct fringe_number fringe_track(const int64_t *samples, size_t sample_count, int64_t tolerance,
 				  int64_t *room, size_t room_numbers);
 
 /*
- * The tracks of all passes of the file, in its order, each behind the last: what fringe_samples and fringe_track give
- * for one pass after the other, each with its own tolerance and with the room that those before it left.
+ * The tracks of all passes of the file, in its order, each behind the last: what fringe_pass_track gives for one pass
+ * after the other, each with the room that those before it left.
  * counts[i]: segments of pass i, counted from 0. Its segments start at number 4 (counts[0] + .. + counts[i - 1]) of the
  * room, those of pass 0 at number 0, and have 4 counts[i] numbers. They are a track by themselves, as fringe_predict
- * takes it: samples count from 0 in each pass. Behind the last segment the room stays as it was.
- * A pass of n samples never needs more than (n + 1) / 2 segments, rounded down. So 4 times the sum of that over the
- * passes is always room enough, and FRINGE_ALL_TRACKS_NUMBERS, 4 MiB, is so for every file. With less room the call may
- * still be answered, since most tracks have far fewer segments; but it may then take twice as long.
- * Refusals: 1 to 4 for the file. Then the passes are asked in turn, and the first that is refused decides: 5 and 6 as
- * fringe_samples gives them, 8 where its track does not fit the room that is left. So pass 0's 8 is given before pass
- * 1's 5. After a refusal all counts are 0 and all of the room is as it was, also where earlier passes had a track.
+ * takes it: samples count from 0 in each pass.
+ * Room for (n + 1) / 2 segments of each pass of n samples is always enough, and FRINGE_ALL_TRACKS_NUMBERS, 4 MiB, for
+ * every file. With less room the call may still be answered, since most tracks have far fewer segments; but it may then
+ * take twice as long.
+ * Refusals: 1 to 4 for the file. Then the passes are asked in turn, and the first that is refused decides: 5, 6 or 8 as
+ * fringe_pass_track gives it with the room that is left. So pass 0's 8 is given before pass 1's 5. After a refusal all
+ * counts are 0, and nothing is written, also where earlier passes had a track.
  */
 struct fringe_tracks fringe_all_tracks(const uint8_t *file, size_t file_bytes, int64_t *room, size_t room_numbers);
 
 /*
- * The delay that a track predicts at a sample, counted from 0. track_numbers is 4 times the segments that fringe_track
- * answered. value: ps, (A + r j) / 65,536 to the nearest, halves away from zero, with j counted from the segment's
- * first sample. Numbers behind the last whole segment are not read.
+ * The delay that a track predicts at a sample, counted from 0. track_numbers is 4 times the track's segments. value:
+ * ps, (A + r j) / 65,536 to the nearest, halves away from zero, with j counted from the segment's first sample. Numbers
+ * behind the last whole segment are not read.
  * Refusal 9: no segment covers the sample; or any segment has a length outside 1-1,024, leaves a gap or an overlap, the
  * first is not at 0, there are over 4,096 samples in all, A is beyond 9 10^15 or r beyond 2 10^16 either side, or the
- * prediction at any sample is beyond 131,000,000,000 either side. A track that fringe_track made is never malformed.
+ * prediction at any sample is beyond 131,000,000,000 either side. A track that the library made is never malformed.
  */
 struct fringe_number fringe_predict(const int64_t *track, size_t track_numbers, uint64_t sample);
 
 /*
  * The same prediction as two doubles: seconds, the ps divided once by 1e12; and cycles of the 32 MHz clock, the ps
- * times 32, divided once by 1e6. track_numbers is 4 times the segments that fringe_track answered. Refusal: 9.
+ * times 32, divided once by 1e6. It is asked for, and refused, as fringe_predict is.
  */
 struct fringe_host fringe_host_at(const int64_t *track, size_t track_numbers, uint64_t sample);
 

@@ -1,4 +1,4 @@
-/* Orientation, delays and samples of the lent file. */
+/* Orientation and delays of the lent file, and of its passes samples and tracks. */
 #include "test.h"
 #include "values.h"
 
@@ -20,14 +20,14 @@ static void delay_one(const struct delay_row *row)
 	file_stays();
 }
 
-/* the samples of a pass: the answer, and what the room holds */
-static void samples_one(const struct sample_row *row)
+/* the samples or the track of a pass: the answer, and what the room holds */
+static void pass_one(const struct pass_row *row)
 {
 	lend_file(row->kind, row->at, row->value);
 	empty_room();
 	test(row->what);
-	number(fringe_samples(file, file_bytes, row->pass, room, row->room_numbers), row->want);
-	holds(row->numbers, (size_t)row->want[1]);
+	number(row->call(file, file_bytes, row->pass, room, row->room_numbers), row->want);
+	holds(row->numbers, row->width * (size_t)row->want[1]);
 	file_stays();
 }
 
@@ -37,6 +37,6 @@ void delays(void)
 		orientation_one(row);
 	for EACH (delay, row)
 		delay_one(row);
-	for EACH (sample, row)
-		samples_one(row);
+	for EACH (pass, row)
+		pass_one(row);
 }

@@ -6,7 +6,8 @@ A file is one of the two, by that kind, with one number changed.
 
 import struct
 
-from reference import delay, session, together
+from c.cells import Name
+from reference import delay, session, together, track
 from reference.delay import DAYS, PASSES, SOURCES, STATIONS
 
 LEAST, GREATEST, LAST_INDEX = -(2**63), 2**63 - 1, 2**64 - 1
@@ -171,31 +172,47 @@ def delay_table():
 
 
 def passes(kind):
-    """Name, change, index of the pass, and numbers of room."""
-    none, station, source, day = same(kind), *(at(kind, PASSES, 0, field) for field in (0, 2, 3))
-    yield from (("a pass over midnight", none, 0, 5), ("more room than samples", none, 0, 8_200))
-    yield from (("another pass", none, 1, 4), ("room too short by one", none, 0, 4), ("no room", none, 1, 0))
-    yield from (("a pass beyond the last", none, 2, 8_200), ("the greatest pass", none, LAST_INDEX, 0))
-    yield from (("no such station", (kind, station, 11), 0, 8_200), ("the pass beside it", (kind, station, 11), 1, 4))
-    yield from (("no such source", (kind, source, 3), 0, 0), ("a last sample not covered", (kind, day, 60_001), 0, 0))
-    yield ("a first sample not covered", (kind, day, 59_999), 0, 8_200)
-    yield from (("a pass over a leap second", leap(kind), 0, 5), ("one before a second left out", leap(kind), 1, 4))
+    """Name, change, and index of the pass."""
+    none, station, source, day, tolerance = same(kind), *(at(kind, PASSES, 0, field) for field in (0, 2, 3, 7))
+    yield from (("a pass over midnight", none, 0), ("another pass", none, 1), ("no tolerance", (kind, tolerance, 0), 0))
+    yield from (("a pass beyond the last", none, 2), ("the greatest pass", none, LAST_INDEX))
+    yield from (("no such station", (kind, station, 11), 0), ("the pass beside it", (kind, station, 11), 1))
+    yield from (("no such source", (kind, source, 3), 0), ("a last sample not covered", (kind, day, 60_001), 0))
+    yield ("a first sample not covered", (kind, day, 59_999), 0)
+    yield from (("a pass over a leap second", leap(kind), 0), ("one before a second left out", leap(kind), 1))
     for change in refused(kind):
-        yield from (("samples of a refused file", change, 0, 8_200), ("no pass of a refused file", change, 9, 0))
+        yield from (("a pass of a refused file", change, 0), ("no pass of a refused file", change, 9))
 
 
 def marked_passes():
     for record in range(3):
-        yield from (("the other mark in record %d, pass %d" % (record, i), other_mark(record), i, 5 - i) for i in range(2))
+        yield from (("the other mark in record %d, pass %d" % (record, i), other_mark(record), i) for i in range(2))
 
 
-def sample_table():
-    rows = []
-    for what, change, index, room in (*passes(3), *passes(5), *marked_passes()):
-        number, count, after = delay.samples(changed(change), index, [0] * room)
-        rows.append((what, *change, index, room, (number, count), after[:count]))
-    columns = CHANGE + "uint64_t pass; size_t room_numbers; int64_t want[2]; const int64_t *numbers;"
-    yield ("sample", columns, rows)
+def pass_track(file, index, room):
+    """Refusal, segments written, and the room afterwards: the samples, taken with enough room, and then their track."""
+    number, count, samples = delay.samples(file, index, [0] * track.MOST_SAMPLES)
+    tolerance = session.record_at(file, PASSES, index)[-1]
+    return (number, 0, room) if number else track.track(samples[:count], tolerance, room)
+
+
+def asked_of_passes(name, call, width):
+    """Rows of a call that writes `width` numbers for each that it answers: more room, just enough, too little, none."""
+    for what, change, index in (*passes(3), *passes(5), *marked_passes()):
+        file = changed(change)
+        need = width * call(file, index, [0] * 8_200)[1]
+        for room in (8_200, need + 3, need, need - 1, 0) if need else (8_200, 0):
+            number, count, after = call(file, index, [0] * room)
+            asked = ("%s: %s, room %d" % (name, what, room), *change, Name(name), width, index, room)
+            yield (*asked, (number, count), after[:width * count])
+
+
+def pass_table():
+    """The samples of a pass, and its track, asked in the same way."""
+    rows = [*asked_of_passes("fringe_samples", delay.samples, 1), *asked_of_passes("fringe_pass_track", pass_track, 4)]
+    call = "struct fringe_number (*call)(const uint8_t *, size_t, uint64_t, int64_t *, size_t); size_t width; "
+    columns = CHANGE + call + "uint64_t pass; size_t room_numbers; int64_t want[2]; const int64_t *numbers;"
+    yield ("pass", columns, rows)
 
 
 def sessions(kind):
@@ -226,5 +243,5 @@ def all_tracks_table():
 
 
 def tables():
-    for made in (file_tables, orientation_table, delay_table, sample_table, all_tracks_table):
+    for made in (file_tables, orientation_table, delay_table, pass_table, all_tracks_table):
         yield from made()

@@ -134,13 +134,22 @@ static void fill_passes(void)
 	write_counts("the most passes", most, sizeof written, FRINGE_ANSWERED, FRINGE_RIGHT_FILE_BYTES);
 }
 
-/* the room for all tracks, with a guard on either side */
+/* the room for tracks, with a guard on either side */
 static int64_t all[1 + FRINGE_ALL_TRACKS_NUMBERS + 1];
 
 static void untouched(size_t from, size_t to)
 {
 	for (size_t i = from; i < to; i++)
 		one(all[i], 0x5555555555555555);
+}
+
+/* the room holds so many segments of two samples each, track after track, and nothing else was written */
+static void in_pairs(size_t segments)
+{
+	untouched(0, 1);
+	for (size_t i = 0; i < segments; i++)
+		same(all + 1 + FRINGE_SEGMENT_NUMBERS * i, (int64_t[]){2 * (int64_t)(i % FRINGE_MOST_SEGMENTS), 2}, 2);
+	untouched(1 + FRINGE_SEGMENT_NUMBERS * segments, COUNT(all));
 }
 
 static void all_tracked(const char *what, size_t numbers, int64_t refusal, int64_t count)
@@ -151,18 +160,27 @@ static void all_tracked(const char *what, size_t numbers, int64_t refusal, int64
 	one(r.refusal, refusal);
 	for (size_t i = 0; i < FRINGE_MOST_PASSES; i++)
 		one(r.counts[i], count);
+	in_pairs(FRINGE_MOST_PASSES * (size_t)count);
+}
+
+static void pass_tracked(const char *what, uint64_t pass, size_t numbers, int64_t refusal, int64_t count)
+{
+	memset(all, 0x55, sizeof all);
+	test(what);
+	number(fringe_pass_track(written, sizeof written, pass, all + 1, numbers), (int64_t[]){refusal, count});
+	in_pairs((size_t)count);
 }
 
 static void of_sessions(void)
 {
+	const size_t room_for_one = FRINGE_MOST_TRACK_NUMBERS;
+	const uint64_t last = FRINGE_MOST_PASSES - 1;
 	fill_passes();
 	all_tracked("the most tracks", FRINGE_ALL_TRACKS_NUMBERS, FRINGE_ANSWERED, FRINGE_MOST_SEGMENTS);
-	untouched(0, 1);
-	for (size_t i = 0; i < FRINGE_ALL_TRACKS_NUMBERS / FRINGE_SEGMENT_NUMBERS; i++)
-		same(all + 1 + FRINGE_SEGMENT_NUMBERS * i, (int64_t[]){2 * (int64_t)(i % FRINGE_MOST_SEGMENTS), 2}, 2);
-	untouched(COUNT(all) - 1, COUNT(all));
 	all_tracked("room for one segment less", FRINGE_ALL_TRACKS_NUMBERS - 1, FRINGE_NO_TRACK_FITS, 0);
-	untouched(0, COUNT(all));
+	pass_tracked("the track of the most samples", last, room_for_one, FRINGE_ANSWERED, FRINGE_MOST_SEGMENTS);
+	pass_tracked("a number less room", last, room_for_one - 1, FRINGE_NO_TRACK_FITS, 0);
+	pass_tracked("one beyond the most passes", last + 1, room_for_one, FRINGE_NOT_THERE, 0);
 }
 
 static uint8_t text[FRINGE_ANY_ROWS_BYTES + 1];

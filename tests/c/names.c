@@ -63,6 +63,10 @@ void empties(void)
 	one(fringe_samples(no_file, 0, 0, none, 0).refusal, FRINGE_WRONG_FILE);
 	test("no room for samples");
 	one(fringe_samples(file, file_bytes, 0, none, 0).refusal, FRINGE_ROOM_TOO_SHORT);
+	test("its track, and no room");
+	one(fringe_pass_track(no_file, 0, 0, none, 0).refusal, FRINGE_WRONG_FILE);
+	test("no room for the track of a pass");
+	one(fringe_pass_track(file, file_bytes, 0, none, 0).refusal, FRINGE_NO_TRACK_FITS);
 	test("no records, and no room");
 	one(fringe_write(FRINGE_KIND_DAY, none, 0, none, 0, none, 0, none, 0, fringe_no_bytes(), 0).refusal,
 	    FRINGE_WRONG_FILE);

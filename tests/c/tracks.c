@@ -26,6 +26,36 @@ static void all_one(const struct all_tracks_row *row)
 	file_stays();
 }
 
+/* the track of a pass of the lent file in one step, held to that of its samples: how many numbers it has */
+static size_t one_step(uint64_t pass, size_t room_numbers)
+{
+	static int64_t samples[FRINGE_MOST_SAMPLES], want[ROOM_NUMBERS];
+	struct fringe_number taken = fringe_samples(file, file_bytes, pass, samples, FRINGE_MOST_SAMPLES);
+	int64_t tolerance = fringe_pass_at(file, file_bytes, pass).tolerance;
+	struct fringe_number made = fringe_track(samples, (size_t)taken.value, tolerance, want, room_numbers);
+	empty_room();
+	test("a pass of the sample session in one step");
+	number(fringe_pass_track(file, file_bytes, pass, room, room_numbers), (int64_t[]){made.refusal, made.value});
+	holds(want, FRINGE_SEGMENT_NUMBERS * (size_t)made.value);
+	file_stays();
+	return FRINGE_SEGMENT_NUMBERS * (size_t)made.value;
+}
+
+/* each pass of the sample session, with more room than its track takes, with just enough, and with a number less */
+static void sample_passes(void)
+{
+	lend_bytes(sample_session, sizeof sample_session);
+	uint64_t passes = (uint64_t)fringe_check(file, file_bytes).passes;
+	test("the sample session has passes");
+	one(passes > 0, 1);
+	for (uint64_t i = 0; i < passes; i++) {
+		size_t numbers = one_step(i, ROOM_NUMBERS);
+		one(numbers > 0, 1);
+		one_step(i, numbers);
+		one_step(i, numbers - 1);
+	}
+}
+
 static void predict_one(const struct predict_row *row)
 {
 	lend(row->track, row->track_numbers);
@@ -52,6 +82,7 @@ void tracks(void)
 		track_one(row);
 	for EACH (all_tracks, row)
 		all_one(row);
+	sample_passes();
 	for EACH (predict, row) {
 		predict_one(row);
 		host_one(row);

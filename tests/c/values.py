@@ -7,6 +7,7 @@ import os
 
 from c import filerows, rows
 from c.cells import Cells, number, wrapped
+from inputs import sample
 
 HEAD = """/* Made by tests/remake from the reference: do not edit. A row is one input of a call, and its answer. */
 #ifndef VALUES_H
@@ -16,16 +17,17 @@ HEAD = """/* Made by tests/remake from the reference: do not edit. A row is one 
 """
 
 
-def sound_text(kind):
-    """The sound file with days of a kind."""
-    numbers = filerows.SOUND[kind]
-    return wrapped("static const int64_t sound_%d[%d] = {%s};" % (kind, len(numbers), ", ".join(map(number, numbers))))
+def file_text(name, file):
+    """The numbers of a session file."""
+    numbers = filerows.numbers_of(file)
+    return wrapped("static const int64_t %s[%d] = {%s};" % (name, len(numbers), ", ".join(map(number, numbers))))
 
 
 def text():
     cells = Cells()
     tables = [cells.table(*table) for table in rows.tables()]
-    return "\n".join([HEAD, *map(sound_text, filerows.KINDS), cells.lists_text(), *tables, "#endif\n"])
+    lent = [("sound_%d" % kind, file) for kind, file in filerows.FILES.items()] + [("sample_session", sample.session())]
+    return "\n".join([HEAD, *(file_text(*named) for named in lent), cells.lists_text(), *tables, "#endif\n"])
 
 
 def files():
