@@ -1,10 +1,10 @@
 /*
  * What a correlator's host does with a session file: examples/run-host builds and runs it on the sample session. It
- * prints the first pass's samples and its track, the prediction at its middle sample, the first segment of every pass
- * from all tracks in one call, the session's days as rows of finals2000A, whether the session written with days of
- * these rows is the same, and where the fault of a damaged copy lies. Rows hold full UT1: of a session whose days are
- * not all marked 1 there are none, which it says. A file that cannot be read, or is refused, or has a pass that is
- * refused, ends it with a status that is not 0; of a refused file it prints where the fault lies.
+ * prints the first pass's track, the prediction at its middle sample, its samples, which are for plotting, the first
+ * segment of every pass from all tracks in one call, the session's days as rows of finals2000A, whether the session
+ * written with days of these rows is the same, and where the fault of a damaged copy lies. Rows hold full UT1: of a
+ * session whose days are not all marked 1 there are none, which it says. A file that cannot be read, or is refused, or
+ * has a pass that is refused, ends it with a status that is not 0; of a refused file it prints where the fault lies.
  */
 #include <erlensieg.h>
 #include <errno.h>
@@ -16,7 +16,7 @@
 #define MOST_BYTES (FRINGE_ANY_FILE_BYTES + 1)
 
 static uint8_t file[MOST_BYTES], copy[MOST_BYTES];
-static int64_t samples[FRINGE_MOST_SAMPLES], track[FRINGE_MOST_TRACK_NUMBERS], tracks[FRINGE_ALL_TRACKS_NUMBERS];
+static int64_t track[FRINGE_MOST_TRACK_NUMBERS], tracks[FRINGE_ALL_TRACKS_NUMBERS];
 
 /* reads a file and puts its length into `bytes`; 0 where it cannot be read */
 static int load(const char *name, size_t *bytes)
@@ -50,30 +50,19 @@ static void print_fault(const char *what, const uint8_t *lent, size_t bytes)
 		       fringe_field_name(place.section, place.field));
 }
 
-/* the samples of the first pass; how many, 0 where it is refused */
-static size_t print_samples(size_t bytes)
-{
-	struct fringe_number taken = fringe_samples(file, bytes, 0, samples, FRINGE_MOST_SAMPLES);
-	if (refused("samples of pass 0", taken.refusal))
-		return 0;
-	for (int64_t i = 0; i < taken.value; i++)
-		printf("sample %" PRId64 ": %" PRId64 " ps\n", i, samples[i]);
-	return (size_t)taken.value;
-}
-
 static void print_segment(const int64_t *segment)
 {
 	printf("segment %" PRId64 " %" PRId64 " %" PRId64 " %" PRId64 "\n", segment[0], segment[1], segment[2], segment[3]);
 }
 
-/* the track of the first pass's samples; how many numbers it has, 0 where it is refused */
-static size_t print_track(size_t bytes, size_t count)
+/* the track of the first pass, from the session in one call; how many numbers it has, 0 where it is refused */
+static size_t print_track(size_t bytes, struct fringe_pass pass)
 {
-	struct fringe_pass pass = fringe_pass_at(file, bytes, 0);
-	struct fringe_number made = fringe_track(samples, count, pass.tolerance, track, FRINGE_MOST_TRACK_NUMBERS);
+	struct fringe_number made = fringe_pass_track(file, bytes, 0, track, FRINGE_MOST_TRACK_NUMBERS);
 	if (refused("track of pass 0", made.refusal))
 		return 0;
-	printf("%zu samples, tolerance %" PRId64 " ps: %" PRId64 " segments\n", count, pass.tolerance, made.value);
+	printf("%" PRId64 " samples, tolerance %" PRId64 " ps: %" PRId64 " segments\n", pass.samples, pass.tolerance,
+	       made.value);
 	for (int64_t i = 0; i < made.value; i++)
 		print_segment(track + FRINGE_SEGMENT_NUMBERS * i);
 	return FRINGE_SEGMENT_NUMBERS * (size_t)made.value;
@@ -87,6 +76,18 @@ static int print_prediction(size_t track_numbers, uint64_t sample)
 		return 0;
 	printf("prediction at sample %" PRIu64 ": %" PRId64 " ps, %.15g s, %.15g cycles\n", sample, delay.value,
 	       host.record.seconds, host.record.cycles);
+	return 1;
+}
+
+/* the delays of the first pass's samples, for plotting; no track needs them */
+static int print_samples(size_t bytes)
+{
+	static int64_t samples[FRINGE_MOST_SAMPLES];
+	struct fringe_number taken = fringe_samples(file, bytes, 0, samples, FRINGE_MOST_SAMPLES);
+	if (refused("samples of pass 0", taken.refusal))
+		return 0;
+	for (int64_t i = 0; i < taken.value; i++)
+		printf("sample %" PRId64 ": %" PRId64 " ps\n", i, samples[i]);
 	return 1;
 }
 
@@ -198,9 +199,11 @@ int main(int count, char **words)
 	printf("%" PRId64 " stations, %" PRId64 " sources, %" PRId64 " days of kind %" PRId64 ", %" PRId64 " passes\n",
 	       counts.stations, counts.sources, counts.days, counts.day_kind, counts.passes);
 
-	size_t taken = print_samples(bytes);
-	size_t numbers = taken ? print_track(bytes, taken) : 0;
-	if (!numbers || !print_prediction(numbers, taken / 2) || !print_tracks(bytes, counts.passes))
+	struct fringe_pass pass = fringe_pass_at(file, bytes, 0);
+	size_t numbers = print_track(bytes, pass);
+	if (!numbers || !print_prediction(numbers, (uint64_t)pass.samples / 2))
+		return 1;
+	if (!print_samples(bytes) || !print_tracks(bytes, counts.passes))
 		return 1;
 	print_rows(bytes, counts);
 	damage(bytes);

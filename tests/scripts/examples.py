@@ -56,10 +56,10 @@ def example_prints(file):
     ps, record = track.predict(numbers, middle)[1], track.host_at(numbers, middle)[1:]
     stations, sources, days, passes, kind = session.check(file)[1:]
     lines = ["%d stations, %d sources, %d days of kind %d, %d passes" % (stations, sources, days, kind, passes)]
-    lines += ["sample %d: %d ps" % numbered for numbered in enumerate(samples)]
     lines += ["%d samples, tolerance %d ps: %d segments" % (len(samples), planned[7], len(segments))]
     lines += ["segment %d %d %d %d" % segment for segment in segments]
     lines += ["prediction at sample %d: %d ps, %.15g s, %.15g cycles" % (middle, ps, *record)]
+    lines += ["sample %d: %d ps" % numbered for numbered in enumerate(samples)]
     lines += [*tracks_lines(file), *rows_lines(file)]
     return text([*lines, *fault_lines("damaged copy", file[:104] + bytes(8) + file[112:])])
 
