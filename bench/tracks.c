@@ -1,5 +1,5 @@
 /* links: erlensieg */
-/* The tracks of all passes of a session, per sample: `calls` counts samples. A row asks pass by pass, or all passes together. */
+/* The tracks of all passes of a session, per sample: `calls` counts samples. A row asks pass by pass, in two calls or in one step, or all together. */
 #include "frame.h"
 #include "baseline/sine.c"
 #include "baseline/earth.c"
@@ -7,7 +7,8 @@
 #include "baseline/delay.c"
 #include "baseline/track.c"
 
-/* Two sessions of one baseline and one source: long passes, and short ones. Samples are a second apart, with a tolerance of 10 ps. */
+/* Two sessions of one baseline and one source: long passes, and short ones. Samples are a second apart. */
+#define TOLERANCE 10 /* ps */
 struct shape { int64_t passes, samples; };
 static const struct shape long_passes = {5, 4000}, short_passes = {40, 100};
 
@@ -25,7 +26,7 @@ static void fill(struct shape s)
 {
 	int64_t passes[FRINGE_PASS_NUMBERS * FRINGE_MOST_PASSES];
 	for (int64_t i = 0; i < s.passes; i++)
-		memcpy(passes + 8 * i, (int64_t[]){1, 2, 7, 57753, 1000000 * i, 1000, s.samples, 10}, 64);
+		memcpy(passes + 8 * i, (int64_t[]){1, 2, 7, 57753, 1000000 * i, 1000, s.samples, TOLERANCE}, 64);
 	const int64_t *lists[] = {records, records + 8, records + 11, passes};
 	bytes = base_write(3, lists, (size_t[]){8, 3, 12, 8 * s.passes}, file, sizeof file).value;
 }
@@ -37,32 +38,40 @@ static struct fringe_tracks nothing(size_t numbers) { return (struct fringe_trac
 
 static struct fringe_tracks together(size_t numbers) { return fringe_all_tracks(file, bytes, room, numbers); }
 
-/* As a C caller asks without that call. */
-static struct fringe_tracks in_turn(size_t numbers)
+/* One pass: how many segments its track has, which is written to `at`, where so many numbers are left. */
+typedef int64_t track_of(int64_t pass, int64_t *at, size_t left);
+
+/* The tolerance is known, as it is to a caller who planned the pass. */
+static int64_t pass_in_two_calls(int64_t pass, int64_t *at, size_t left)
+{
+	size_t n = fringe_samples(file, bytes, pass, samples, FRINGE_MOST_SAMPLES).value;
+	return fringe_track(samples, n, TOLERANCE, at, left).value;
+}
+
+static int64_t pass_in_one_step(int64_t pass, int64_t *at, size_t left) { return fringe_pass_track(file, bytes, pass, at, left).value; }
+
+static int64_t pass_in_plain_c(int64_t pass, int64_t *at, size_t left)
+{
+	int64_t tolerance = base_word(file, base_word(file, 88) + 64 * pass + 56);
+	size_t n = base_samples(file, bytes, pass, samples, FRINGE_MOST_SAMPLES).value;
+	return base_track(samples, n, tolerance, at, left).value;
+}
+
+/* Pass after pass, each with the room that is left. */
+static struct fringe_tracks in_turn(track_of *one, int64_t passes, size_t numbers)
 {
 	struct fringe_tracks all = {0};
-	int64_t *at = room, passes = fringe_check(file, bytes).passes;
+	int64_t *at = room;
 	for (int64_t i = 0; i < passes; i++) {
-		int64_t tolerance = fringe_pass_at(file, bytes, i).tolerance;
-		size_t n = fringe_samples(file, bytes, i, samples, FRINGE_MOST_SAMPLES).value;
-		all.counts[i] = fringe_track(samples, n, tolerance, at, numbers - (at - room)).value;
+		all.counts[i] = one(i, at, numbers - (at - room));
 		at += 4 * all.counts[i];
 	}
 	return all;
 }
 
-static struct fringe_tracks plain(size_t numbers)
-{
-	struct fringe_tracks all = {0};
-	int64_t *at = room, passes = base_check(file, bytes).passes;
-	for (int64_t i = 0; i < passes; i++) {
-		int64_t tolerance = base_word(file, base_word(file, 88) + 64 * i + 56);
-		size_t n = base_samples(file, bytes, i, samples, FRINGE_MOST_SAMPLES).value;
-		all.counts[i] = base_track(samples, n, tolerance, at, numbers - (at - room)).value;
-		at += 4 * all.counts[i];
-	}
-	return all;
-}
+static struct fringe_tracks two_calls(size_t numbers) { return in_turn(pass_in_two_calls, fringe_check(file, bytes).passes, numbers); }
+static struct fringe_tracks one_step(size_t numbers) { return in_turn(pass_in_one_step, fringe_check(file, bytes).passes, numbers); }
+static struct fringe_tracks plain(size_t numbers) { return in_turn(pass_in_plain_c, base_check(file, bytes).passes, numbers); }
 
 static size_t segments(struct fringe_tracks all)
 {
@@ -99,12 +108,16 @@ static uint64_t run(enum side side, tracks_of *ours, long calls, struct shape s,
 #define ASKED(name, ours, shape, how) \
 	static uint64_t row_##name(enum side side, long calls) { return run(side, ours, calls, shape, how); }
 
-ASKED(long_in_turn, in_turn, long_passes, AMPLE)
+ASKED(long_two_calls, two_calls, long_passes, AMPLE)
+ASKED(long_one_step, one_step, long_passes, AMPLE)
 ASKED(long_together, together, long_passes, AMPLE)
 ASKED(long_tight, together, long_passes, TIGHT)
-ASKED(short_in_turn, in_turn, short_passes, AMPLE)
+ASKED(short_two_calls, two_calls, short_passes, AMPLE)
+ASKED(short_one_step, one_step, short_passes, AMPLE)
 ASKED(short_together, together, short_passes, AMPLE)
 ASKED(short_tight, together, short_passes, TIGHT)
 
-MAIN({"long_in_turn", row_long_in_turn}, {"long_together", row_long_together}, {"long_tight", row_long_tight},
-     {"short_in_turn", row_short_in_turn}, {"short_together", row_short_together}, {"short_tight", row_short_tight})
+MAIN({"long_two_calls", row_long_two_calls}, {"long_one_step", row_long_one_step},
+     {"long_together", row_long_together}, {"long_tight", row_long_tight},
+     {"short_two_calls", row_short_two_calls}, {"short_one_step", row_short_one_step},
+     {"short_together", row_short_together}, {"short_tight", row_short_tight})
