@@ -7,7 +7,7 @@ A file is one of the two, by that kind, with one number changed.
 import struct
 
 from c.cells import Name
-from reference import delay, session, together, track
+from reference import delay, session, together
 from reference.delay import DAYS, PASSES, SOURCES, STATIONS
 
 LEAST, GREATEST, LAST_INDEX = -(2**63), 2**63 - 1, 2**64 - 1
@@ -189,13 +189,6 @@ def marked_passes():
         yield from (("the other mark in record %d, pass %d" % (record, i), other_mark(record), i) for i in range(2))
 
 
-def pass_track(file, index, room):
-    """Refusal, segments written, and the room afterwards: the samples, taken with enough room, and then their track."""
-    number, count, samples = delay.samples(file, index, [0] * track.MOST_SAMPLES)
-    tolerance = session.record_at(file, PASSES, index)[-1]
-    return (number, 0, room) if number else track.track(samples[:count], tolerance, room)
-
-
 def asked_of_passes(name, call, width):
     """Rows of a call that writes `width` numbers for each that it answers: more room, just enough, too little, none."""
     for what, change, index in (*passes(3), *passes(5), *marked_passes()):
@@ -209,7 +202,7 @@ def asked_of_passes(name, call, width):
 
 def pass_table():
     """The samples of a pass, and its track, asked in the same way."""
-    rows = [*asked_of_passes("fringe_samples", delay.samples, 1), *asked_of_passes("fringe_pass_track", pass_track, 4)]
+    rows = [*asked_of_passes("fringe_samples", delay.samples, 1), *asked_of_passes("fringe_pass_track", together.pass_track, 4)]
     call = "struct fringe_number (*call)(const uint8_t *, size_t, uint64_t, int64_t *, size_t); size_t width; "
     columns = CHANGE + call + "uint64_t pass; size_t room_numbers; int64_t want[2]; const int64_t *numbers;"
     yield ("pass", columns, rows)
