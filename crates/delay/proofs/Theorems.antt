@@ -164,13 +164,14 @@ samples-clear s i n e =
     let h = each-holds t c m (g .1) in
     record { accepted = f .0; there = unless-zero x 4 (g .0); named = h .0; covered = h .1; enough = h .2 }
 
--- every sample that is given lies within ±130,000,000,000
-pub sample-bounded : (s : List ℕ) (i n j : ℕ) → samplesNumber s i n ≡ 0 → j < samplesOf (passOf s i) → ∣ sampleIn s (passOf s i) j ∣ ≤ 130000000000
+-- every sample that is given lies within ±130,000,000,000: of a pass for which nothing is lacking, by its record and by its index
+pub record-bounded : (s : List ℕ) (p : Pass) (j : ℕ) → refusalOf s ≡ 0 → allThere s (p .station1) (p .station2) (p .source) ≡ true → allCovered s p ≡ true → j < samplesOf p → ∣ sampleIn s p j ∣ ≤ 130000000000
 unfolding sampleIn allCovered
-sample-bounded s i n j e h =
-    let g = samples-clear s i n e in
-    let p = passOf s i in
-    delay-in-size s (p .station1) (p .station2) (p .source) (sampleEpoch p j) (g .accepted) (g .named) (below-each (samplesOf p) j (λ (x : ℕ). covers s (sampleEpoch p x .day)) h (g .covered)) (sample-ms p j)
+record-bounded s p j a t c h =
+    delay-in-size s (p .station1) (p .station2) (p .source) (sampleEpoch p j) a t (below-each (samplesOf p) j (λ (x : ℕ). covers s (sampleEpoch p x .day)) h c) (sample-ms p j)
+
+pub sample-bounded : (s : List ℕ) (i n j : ℕ) → samplesNumber s i n ≡ 0 → j < samplesOf (passOf s i) → ∣ sampleIn s (passOf s i) j ∣ ≤ 130000000000
+sample-bounded s i n j e h = let g = samples-clear s i n e in record-bounded s (passOf s i) j (g .accepted) (g .named) (g .covered) h
 
 -- sample j of the room is the delay at the pass's epoch with j·step added
 pub room-sample : (s : List ℕ) (i j : ℕ) (room : List ℤ) → samplesNumber s i (length room) ≡ 0 → j < samplesOf (passOf s i) → getD (samplesRoom s i room) j (pos 0) ≡ delayIn s (passOf s i .station1) (passOf s i .station2) (passOf s i .source) (sampleEpoch (passOf s i) j)

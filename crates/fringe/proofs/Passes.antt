@@ -15,7 +15,7 @@ use Rattle.whole.specs.Refusals.{unless, firstOf}
 use Rattle.whole.specs.Values.{firstValues}
 use Rattle.whole.specs.declared.Number.{Number}
 use Rattle.whole.proofs.Answers.{given-yes, given-no, given-same, answer-yes}
-use Rattle.whole.proofs.Each.{below-all, below-each}
+use Rattle.whole.proofs.Each.{below-all}
 use Rattle.whole.proofs.Refusals.{first-is}
 use Rattle.whole.proofs.Values.{values-long, value-at}
 use Rattle.fields.specs.declared.Pass.{Pass}
@@ -27,10 +27,9 @@ use Rattle.session.specs.Records.{passOf}
 use Rattle.session.proofs.Laws.{pass-in}
 use Rattle.delay.specs.Calls.{samplesOf, allCovered, sampleIn, samplesNumber, samplesOutcome, samplesRoom}
 use Rattle.delay.specs.Keeping.{placesOf, placesThere, lacksOf, roomBy}
-use Rattle.delay.specs.Sessions.{covers, sampleEpoch}
-use Rattle.delay.proofs.Epochs.{samples-count, sample-ms}
+use Rattle.delay.proofs.Epochs.{samples-count}
 use Rattle.delay.proofs.Numbers.{lacks-number, none-lacking}
-use Rattle.delay.proofs.Theorems.{delay-in-size}
+use Rattle.delay.proofs.Theorems.{record-bounded}
 use Rattle.fit.proofs.Tests.{lt-or}
 use Rattle.track.specs.Segments.{Segment}
 use Rattle.track.specs.Made.{trackOf}
@@ -84,22 +83,17 @@ lacks-same s p n q m =
     (le-leb (samplesOf p) n m ∙ sym (le-leb (samplesOf p) 4096 (samples-count p q .1)))
 
 -- those of a pass that lacks nothing are such as `track` takes
-module _ (s : List ℕ) (h : refusalOf s ≡ 0) (p : Pass) (q : InPass p) (n : ℕ) (e : lacksOf s p n ≡ 0) where
-  bounded : (j : ℕ) → j < samplesOf p → ∣ sampleIn s p j ∣ ≤ 130_000_000_000
-  unfolding sampleIn allCovered
-  bounded j m =
-      let g = none-lacking s p n e in
-      delay-in-size s (p .station1) (p .station2) (p .source) (sampleEpoch p j) h (g .0) (below-each (samplesOf p) j (λ (x : ℕ). covers s (sampleEpoch p x .day)) m (g .1)) (sample-ms p j)
-
-  pub in-range : inRange (samplesBy s p) (p .tolerance) ≡ true
-  unfolding inRange
-  in-range =
-      let k = samplesOf p in
-      let f = sampleIn s p in
-      let c = samples-count p q in
-      let t = holds-inside tolerance (p .tolerance) (q .tolerance) in
-      let small : (j : ℕ) → j < k → leb ∣ getD (firstValues k f) j (pos 0) ∣ 130_000_000_000 ≡ true = λ j m. rw (value-at k j f m) (le-leb ∣ f j ∣ 130_000_000_000 (bounded j m)) in
-      rw (values-long k f, le-leb 1 k (c .0), le-leb k 4096 (c .1), t) (below-all k _ small)
+pub in-range : (s : List ℕ) → refusalOf s ≡ 0 → (p : Pass) → InPass p → (n : ℕ) → lacksOf s p n ≡ 0 → inRange (samplesBy s p) (p .tolerance) ≡ true
+unfolding inRange
+in-range s h p q n e =
+    let k = samplesOf p in
+    let f = sampleIn s p in
+    let c = samples-count p q in
+    let t = holds-inside tolerance (p .tolerance) (q .tolerance) in
+    let g = none-lacking s p n e in
+    let small : (j : ℕ) → j < k → leb ∣ getD (firstValues k f) j (pos 0) ∣ 130_000_000_000 ≡ true =
+    λ j m. rw (value-at k j f m) (le-leb ∣ f j ∣ 130_000_000_000 (record-bounded s p j h (g .0) (g .1) m)) in
+    rw (values-long k f, le-leb 1 k (c .0), le-leb k 4096 (c .1), t) (below-all k _ small)
 
 -- ---- of a file that is accepted
 
