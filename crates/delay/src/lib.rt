@@ -115,7 +115,7 @@ pub fn delay(file: &[u8], station1: i64, station2: i64, source: i64, day: i64, m
     }
 }
 
-// The samples of a pass, written from the start of the room.
+// The samples of a pass, written from the start of the room: for plotting. `fringe::pass_track` goes from the file to the track by itself.
 pub fn samples(file: &[u8], pass: usize, room: &mut [i64]) -> Number
     ensures { λ r. ⌜ SamplesPromise (now (file .entry)) pass (now (room .entry)) r (now (room .exit)) ⌝ }
 {

@@ -1,5 +1,5 @@
--- THE THEOREMS of document 02, L6: `pass_track` answers as `samples` and then `track`, with the numbers 1 to 6 and then 8, and never with 7. Assumes nothing.
-use mathlib.Core.Path.{_≡_, refl, sym, ap, _∙_}
+-- THE THEOREMS of document 02, L6: `pass_track` answers as `samples` and then `track`, with the numbers 1 to 6 and then 8, and never with 7; refused, it leaves the room. Assumes nothing.
+use mathlib.Core.Path.{_≡_, refl, sym, ap, subst, _∙_}
 use mathlib.Core.Bool.{Bool, true, false}
 use mathlib.Core.List.{List, [], _∷_}
 use mathlib.Core.Logic.{⊎-elim}
@@ -14,7 +14,7 @@ use Rattle.whole.specs.Whole.{∣_∣}
 use Rattle.whole.specs.Answers.{noNumber}
 use Rattle.whole.specs.Refusals.{unless, firstOf}
 use Rattle.whole.specs.declared.Number.{Number}
-use Rattle.whole.proofs.Answers.{answer-no, answer-refusal}
+use Rattle.whole.proofs.Answers.{given-each, answer-no, answer-refusal}
 use Rattle.whole.proofs.Refusals.{first-is}
 use Rattle.sections.proofs.Shapes.{today}
 use Rattle.sections.proofs.Accepted.{refusal-most}
@@ -27,6 +27,7 @@ use Rattle.delay.proofs.Epochs.{samples-count}
 use Rattle.delay.proofs.Numbers.{indexOk, namesOk, daysOk, samples-first, file-number, beyond-number, lacks-number}
 use Rattle.fit.proofs.Tests.{lt-or}
 use Rattle.track.specs.Answer.{Outcome, outcome, refused}
+use Rattle.track.proofs.Answers.{each-way}
 use Rattle.fringe.specs.PassTrack.{passNumber, passSamples, passOutcome}
 use Rattle.fringe.specs.TwoCalls.{Enough, InTwoCalls, one, two}
 use Rattle.fringe.specs.Sharing.{segmentsIn}
@@ -75,6 +76,23 @@ module _ (s : List ℕ) (i : ℕ) (place : List ℤ) (g : Enough s i place) wher
   as-two-calls room q r last after t p =
       let e = p ∙ sym (two-outcome room q last t) in
       (ap (λ (o : Outcome). o .answer) e, ap (λ (o : Outcome). o .room) e)
+
+-- ---- refused
+
+-- the room is as it was, and the value is 0
+abbrev Left : List ℤ → Outcome → Type 0
+Left room o = (o .answer .refusal ≡ pos 0 → ⊥) → (o .room ≡ room) × (o .answer .value ≡ pos 0)
+
+outcome-left : (s : List ℕ) (i : ℕ) (room : List ℤ) → Left room (passOutcome s i room)
+unfolding passOutcome
+outcome-left s i room =
+    given-each (Left room) (passNumber s i) _ (λ n. refused n room)
+    (λ e. each-way (passSamples s i) (passOf s i .tolerance) room (Left room) (λ n f. (refl, refl)) (λ l f. absurd (f refl)))
+    (λ f. (refl, refl))
+
+-- THE THEOREM: refused, the call leaves the room as it was, and gives 0
+pub leaves : (s : List ℕ) (i : ℕ) (room : List ℤ) (r : Number) (after : List ℤ) → PassTrackPromise s i room r after → (r .refusal ≡ pos 0 → ⊥) → (after ≡ room) × (r .value ≡ pos 0)
+leaves s i room r after p = subst (Left room) (sym p) (outcome-left s i room)
 
 -- ---- its numbers
 

@@ -2,7 +2,7 @@
 use borrow.Author.Needs.{needs}
 use mathlib.Core.Path.{_≡_, sym, ap, _∙_}
 use mathlib.Core.List.{List}
-use Prim.Native.Nat.{ℕ, _≤_}
+use Prim.Native.Nat.{ℕ}
 use native.Mathlib.Omega.{arith}
 use lib.IntN.{ℤ}
 use Rattle.whole.specs.declared.Number.{Number}
@@ -10,7 +10,6 @@ use Rattle.fields.specs.declared.Pass.{Pass}
 use Rattle.fields.specs.Records.{InPass}
 use Rattle.session.specs.Records.{passOf}
 use Rattle.session.proofs.Laws.{pass-in}
-use Rattle.delay.specs.Calls.{samplesOf}
 use Rattle.delay.proofs.Epochs.{samples-count, samples-read, samples-cast}
 use Rattle.fringe.specs.OfRecord.{TrackBy, outcomeBy}
 use Rattle.fringe.specs.Promises.{PassTrackPromise}
