@@ -56,6 +56,8 @@ asked-turns : (s : List ℕ) (m i : ℕ) (room : List ℤ) (rs : List Number) (l
     → in_turn s m i room ≡ record { refusal = first_refusal rs; counts = map (λ (r : Number). r.value) rs; room = last }
 unfolding in_turn
 asked-turns s zero i room [] last none = refl
+asked-turns s zero i room (r ∷ rs) last x = elim x [ ]
+asked-turns s (suc m) i room [] last x = elim x [ ]
 asked-turns s (suc m) i room (r ∷ rs) last (next {after} {last = end} p q) =
     let k = 4 * pos_part r.value in
     ap (λ (o : Outcome). followed o (in_turn s m (suc i) (drop (4 * pos_part o.answer.value) o.room))) (sym p)

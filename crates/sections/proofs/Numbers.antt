@@ -2,7 +2,7 @@
 use mathlib.Core.Path.{◌≡◌, refl}
 use Prim.Native.Nat.{ℕ, ◌+◌, ◌-◌}
 use native.Mathlib.Omega.{arith}
-use mathlib.Core.Bool.{true, false, ◌&&◌, and_true as and-right-true}
+use mathlib.Core.Bool.{true, false, ◌&&◌, and-true as and-right-true}
 use lib.IntN.{ℤ, pos, ◌+ℤ◌, ◌-ℤ◌}
 use lib.Signed.{le_z, lt_z}
 use borrow.Author.Tests.{ne_eqb}

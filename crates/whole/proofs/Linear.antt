@@ -67,6 +67,7 @@ pub ⇒eq : (a b : ℤ) → pos_part a + neg_part b ≡ pos_part b + neg_part a 
 
 pub le_z⇒ : (a b : ℤ) → T (le_z a b) → pos_part a + neg_part b ≤ pos_part b + neg_part a
 le_z⇒ (pos a) (pos b) t = omega (arith, leb→le a b t)
+le_z⇒ (pos a) (negsuc b) t = elim t [ ]
 le_z⇒ (negsuc a) (pos b) t = omega arith
 le_z⇒ (negsuc a) (negsuc b) t = omega (arith, leb→le b a t)
 
@@ -84,6 +85,7 @@ pub ⇒le : (a b : ℤ) → pos_part a + neg_part b ≤ pos_part b + neg_part a 
 
 pub lt_z⇒ : (a b : ℤ) → T (lt_z a b) → pos_part a + neg_part b < pos_part b + neg_part a
 lt_z⇒ (pos a) (pos b) t = omega (arith, ltb→lt a b t)
+lt_z⇒ (pos a) (negsuc b) t = elim t [ ]
 lt_z⇒ (negsuc a) (pos b) t = omega arith
 lt_z⇒ (negsuc a) (negsuc b) t = omega (arith, ltb→lt b a t)
 
@@ -229,7 +231,7 @@ pub back : {z : ℤ} → SFits w64 z → to_z w64 (of_z w64 z) ≡ z
 back f = to_z-of_z f
 
 pub ret : (z : ℤ) → mag z < 2 ^ 63 → to_z w64 (of_z w64 z) ≡ z
-ret z h = to_z-of_z (record { sfits = h })
+ret z h = to_z-of_z {w = w64} (record { sfits = h })
 
 -- a range test that passed, `le_z lo z && le_z z hi`
 pub and_true : (s t : Bool) → (s && t) ≡ true → (s ≡ true) × (t ≡ true)
