@@ -19,7 +19,7 @@ pub struct Source {
     pub declination: i64,
 }
 
-#[derive(Drop)]
+#[derive(Clone, Copy)]
 pub struct Day {
     pub mjd: i64,
     pub x: i64,
