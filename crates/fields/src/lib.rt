@@ -29,7 +29,7 @@ pub struct Day {
     pub mark: i64,
 }
 
-#[derive(Drop)]
+#[derive(Clone, Copy)]
 pub struct Pass {
     pub station1: i64,
     pub station2: i64,
