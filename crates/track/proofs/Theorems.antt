@@ -7,7 +7,6 @@ use native.Mathlib.Omega.{arith}
 use lib.Dec.{T, ltb, ltb→lt, nltb→le}
 use lib.ListN.{length, length-map}
 use lib.IntN.{ℤ, pos}
-use lib.Signed.{◌≤ℤ◌}
 use Rattle.fit.specs.Line.{Fits, Small}
 use Rattle.fit.specs.Greedy.{longest, counts, Cover, done, step}
 use Rattle.fit.specs.Rates.{fit_of, rate_of_rule}

@@ -1,6 +1,8 @@
 // The track of samples: the fewest segments, each within the tolerance of its samples. Document 01, 'Track'.
 // specs/Segments.antt says what a track is, specs/Rule.antt which one is made, specs/Answer.antt what the call answers,
 // specs/Fewest.antt what demand 3 says of a call.
+#![tactic(auto)]
+
 ghost use Rattle.track.specs.Promises.{TrackPromise};
 
 pub use make::make_track;

@@ -1,21 +1,13 @@
--- `track::call_in_range` meets its contract.
-use mathlib.Core.Path.{◌≡◌, sym, ◌∙◌}
-use mathlib.Core.Bool.{Bool, true, false, ◌&&◌}
-use borrow.Author.Rules.{rules}
-use borrow.Author.Tests.{lt-leb, le-leb, not-true, not-false}
-use mathlib.Core.List.{List}
-use Prim.Native.Nat.{ℕ}
+use Rattle.std.proofs.Common.{◌≡◌, sym, ◌∙◌, Bool, true, false, ◌&&◌, List, ℕ, ℤ, length}
+use borrow.Author.Tests.{lt-leb, le-leb}
 use lib.Dec.{leb}
-use lib.IntN.{ℤ}
-use lib.ListN.{length}
 use Rattle.fields.specs.Ranges.{inside, samples, tolerance}
 use Rattle.whole.specs.Whole.{pos_part}
 use Rattle.whole.proofs.Linear.{back}
 use Rattle.whole.specs.Each.{all_below}
 use Rattle.track.specs.Answer.{small_at, in_range}
 use Rattle.whole.proofs.Tests.{and_no, no_and}
-use Rattle.track.proofs.range.call_in_range.Statement.{statement}
-use Rattle.track.proofs.range.call_in_range.Tie as tie
+use Rattle.track.proofs.range.call_in_range.Goals as goal
 
 -- four tests, of which one fails, or of which all but the last hold
 module _ (a b c d : Bool) where
@@ -55,30 +47,19 @@ module _ (s : List ℤ) (t : ℤ) where
   unfolding in_range
   rest h k l = at-d (leb fewest (length s)) (leb (length s) most) (inside tolerance t) (all_below (length s) (small_at s)) h k l
 
-says : (c : tie.After-inside) → c.inside.result ≡ inside tolerance c.before.before.before.args.tolerance
-says c = simp (back c.before.before.before.ranges.tolerance) at c.inside.ensures
+pub returns-then-samples-lt-FEWEST : goal.returns-then-samples-lt-FEWEST
+returns-then-samples-lt-FEWEST c = short c.args.samples.now c.args.tolerance (lt-leb _ _ c.if-samples-lt-FEWEST.true)
 
-returns : tie.Need-returns
-returns c = short c.before.args.samples.now c.before.args.tolerance (lt-leb _ _ c.if1.true)
+pub returns-then-samples-gt-MOST : goal.returns-then-samples-gt-MOST
+returns-then-samples-gt-MOST c = long c.args.samples.now c.args.tolerance (lt-leb _ _ c.if-samples-gt-MOST.true)
 
-returns-2 : tie.Need-returns-2
-returns-2 c = let x = c.before.before.args in long x.samples.now x.tolerance (lt-leb _ _ c.if2.true)
+pub returns-then-not-inside : goal.returns-then-not-inside
+returns-then-not-inside c =
+    let e : c.inside.result ≡ inside tolerance c.args.tolerance = simp (back c.ranges.tolerance) at c.inside.ensures in
+    beyond c.args.samples.now c.args.tolerance (sym e ∙ c.if-not-inside.true)
 
-inside-requires : tie.Need-inside-requires
-inside-requires c κs = search rules
-
-returns-3 : tie.Need-returns-3
-returns-3 c = let x = c.before.before.before.before.args in
-    beyond x.samples.now x.tolerance (sym (says c.before) ∙ not-true _ c.if3.true)
-
-all-small-requires : tie.Need-all-small-requires
-all-small-requires c κs = search rules
-
-returns-4 : tie.Need-returns-4
-returns-4 c = let k = c.before.before in let f = k.before in let x = f.before.before.args in
+pub returns : goal.returns
+returns c =
+    let e : c.inside.result ≡ inside tolerance c.args.tolerance = simp (back c.ranges.tolerance) at c.inside.ensures in
     c.all_small.ensures
-    ∙ rest x.samples.now x.tolerance (le-leb _ _ f.before.if1.false) (le-leb _ _ f.if2.false) (sym (says k) ∙ not-false _ c.before.if3.false)
-
-pub call-in-range-spec : {M : Type 1} → statement M
-call-in-range-spec =
-    tie.close (tie.spec returns returns-2 inside-requires returns-3 all-small-requires returns-4)
+    ∙ rest c.args.samples.now c.args.tolerance (le-leb _ _ c.if-samples-lt-FEWEST.false) (le-leb _ _ c.if-samples-gt-MOST.false) (sym e ∙ c.if-not-inside.false)
