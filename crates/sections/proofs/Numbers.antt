@@ -1,6 +1,6 @@
 -- Tests on whole numbers, as the code makes them. Assumes nothing.
 use mathlib.Core.Path.{◌≡◌, refl}
-use Prim.Native.Nat.{ℕ, ◌+◌, ◌-◌}
+use Prim.Native.Nat.{ℕ}
 use native.Mathlib.Omega.{arith}
 use mathlib.Core.Bool.{true, false, ◌&&◌, and-true as and-right-true}
 use lib.IntN.{ℤ, pos, ◌+ℤ◌, ◌-ℤ◌}

@@ -19,6 +19,7 @@ pub struct Shape {
     pub high: [i64; 8],
 }
 
+#[tactic(auto, unfolding(crate::specs::Code::shape_of))]
 fn station() -> Shape
     ensures { result ≡ shape_of station }
 {
@@ -50,6 +51,7 @@ fn station() -> Shape
     }
 }
 
+#[tactic(auto, unfolding(crate::specs::Code::shape_of))]
 fn source() -> Shape
     ensures { result ≡ shape_of source }
 {
@@ -72,6 +74,7 @@ fn source() -> Shape
     }
 }
 
+#[tactic(auto, unfolding(crate::specs::Code::shape_of))]
 fn orientation() -> Shape
     ensures { result ≡ shape_of orientation }
 {
@@ -103,6 +106,7 @@ fn orientation() -> Shape
     }
 }
 
+#[tactic(auto, unfolding(crate::specs::Code::shape_of))]
 fn marked() -> Shape
     ensures { result ≡ shape_of marked }
 {
@@ -134,6 +138,7 @@ fn marked() -> Shape
     }
 }
 
+#[tactic(auto, unfolding(crate::specs::Code::shape_of))]
 fn pass() -> Shape
     ensures { result ≡ shape_of pass }
 {
@@ -165,6 +170,7 @@ fn pass() -> Shape
     }
 }
 
+#[tactic(auto, unfolding(crate::specs::Code::shape_of, crate::specs::Layouts::no_layout))]
 fn no_layout() -> Shape
     ensures { result ≡ shape_of no_layout }
 {
