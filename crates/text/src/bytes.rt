@@ -24,6 +24,7 @@ fn put_pair(d: &mut [u8], at: usize, w: u64)
     d[at + 1] = (w / 256) as u8;
 }
 
+#[tactic(auto, unfolding(crate::specs::Code::put_quad_rule))]
 fn put_quad(d: &mut [u8], at: usize, w: u64)
     requires { (at + 4 ≤ length d.old) × (w < 4294967296) }
     ensures { d.new ≡ put_quad_rule d.old at w }
@@ -33,6 +34,7 @@ fn put_quad(d: &mut [u8], at: usize, w: u64)
 }
 
 // The eight bytes of w, from at on.
+#[tactic(auto, unfolding(crate::specs::Code::put_bits_rule))]
 fn put_bits(d: &mut [u8], at: usize, w: u64)
     requires { at + 8 ≤ length d.old }
     ensures { d.new ≡ put_bits_rule d.old at w }

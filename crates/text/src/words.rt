@@ -29,6 +29,7 @@ fn quad_at(s: &[u8], at: usize) -> u64
 }
 
 // The number of the eight bytes from at on, without a sign.
+#[tactic(auto, unfolding(crate::specs::Words::bits_at))]
 pub fn bits_at(s: &[u8], at: usize) -> u64
     requires { at + 8 ≤ length s.now }
     ensures { result ≡ bits_at s.now at }
