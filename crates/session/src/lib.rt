@@ -1,4 +1,6 @@
 // The session file: read, checked, and its records handed out. Document 01, 'Session file'.
+#![tactic(auto)]
+
 ghost use Rattle.session.specs.Promises.{CheckPromise, FaultPromise, StationPromise, SourcePromise, DayPromise, PassPromise};
 
 mod faults;
@@ -104,6 +106,7 @@ pub fn check(file: &[u8]) -> Counts
 }
 
 // The station with this index, counted from 0; 5 beyond the last.
+#[tactic(auto, unfolding(crate::specs::Records::station_at_rule))]
 pub fn station_at(file: &[u8], index: usize) -> StationAnswer
     ensures { StationPromise file.now index result }
 {
@@ -120,6 +123,7 @@ pub fn station_at(file: &[u8], index: usize) -> StationAnswer
 }
 
 // The source with this index, counted from 0; 5 beyond the last.
+#[tactic(auto, unfolding(crate::specs::Records::source_at_rule))]
 pub fn source_at(file: &[u8], index: usize) -> SourceAnswer
     ensures { SourcePromise file.now index result }
 {
@@ -135,6 +139,7 @@ pub fn source_at(file: &[u8], index: usize) -> SourceAnswer
 }
 
 // The orientation record with this index, counted from 0; 5 beyond the last.
+#[tactic(auto, unfolding(crate::specs::Records::day_at_rule))]
 pub fn day_at(file: &[u8], index: usize) -> DayAnswer
     ensures { DayPromise file.now index result }
 {
@@ -153,6 +158,7 @@ pub fn day_at(file: &[u8], index: usize) -> DayAnswer
 }
 
 // The pass with this index, counted from 0; 5 beyond the last.
+#[tactic(auto, unfolding(crate::specs::Records::pass_at_rule))]
 pub fn pass_at(file: &[u8], index: usize) -> PassAnswer
     ensures { PassPromise file.now index result }
 {

@@ -14,6 +14,7 @@ use sections::refusal::{count_of, field_at, record_byte, refusal_of};
 use text::words::{number_at, word_at};
 use whole::sign::number;
 
+#[tactic(auto, unfolding(crate::specs::Records::station_of_rule))]
 pub fn station_of(s: &[u8], i: usize) -> Station
     requires { (refusal_of_rule s.now ≡ 0) × (i < count_of_rule s.now 0) }
     ensures { result ≡ station_of_rule s.now i }
@@ -22,6 +23,7 @@ pub fn station_of(s: &[u8], i: usize) -> Station
     station_from(&row)
 }
 
+#[tactic(auto, unfolding(crate::specs::Records::source_of))]
 pub fn source_of(s: &[u8], i: usize) -> Source
     requires { (refusal_of_rule s.now ≡ 0) × (i < count_of_rule s.now 1) }
     ensures { result ≡ source_of s.now i }
@@ -30,6 +32,7 @@ pub fn source_of(s: &[u8], i: usize) -> Source
     source_from(&row)
 }
 
+#[tactic(auto, unfolding(crate::specs::Records::day_of_rule))]
 pub fn day_of(s: &[u8], i: usize) -> Day
     requires { (refusal_of_rule s.now ≡ 0) × (i < count_of_rule s.now 2) }
     ensures { result ≡ day_of_rule s.now i }
@@ -38,6 +41,7 @@ pub fn day_of(s: &[u8], i: usize) -> Day
     day_from(&row)
 }
 
+#[tactic(auto, unfolding(crate::specs::Records::pass_of_rule))]
 pub fn pass_of(s: &[u8], i: usize) -> Pass
     requires { (refusal_of_rule s.now ≡ 0) × (i < count_of_rule s.now 3) }
     ensures { result ≡ pass_of_rule s.now i }
