@@ -1,4 +1,6 @@
 // Answers questions on every call of the library: tests/README.md has the format.
+#![tactic(auto)]
+
 ghost use Rattle.std.specs.Prelude.{◌≤◌, length};
 
 mod angles;

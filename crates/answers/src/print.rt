@@ -2,8 +2,10 @@
 // when it is full and when the line ends.
 ghost use Rattle.std.specs.Prelude.{◌+◌, ◌<◌, ◌≤◌, length};
 
-use libc::STDOUT_FILENO;
 use text::decimal::put_number;
+
+// The descriptor of standard output.
+const STDOUT: i32 = 1;
 
 // The place for some more bytes: `at`, or the start of the buffer, once what stands before `at` is written.
 fn place(buffer: &[u8], at: usize, more: usize) -> usize
@@ -11,7 +13,7 @@ fn place(buffer: &[u8], at: usize, more: usize) -> usize
     ensures { result + more ≤ length buffer.now }
 {
     if buffer.len() - at < more {
-        io::write_all(STDOUT_FILENO, &buffer[0..at]);
+        io::write_all(STDOUT, &buffer[0..at]);
         return 0;
     }
     at
@@ -23,7 +25,7 @@ fn end_line(buffer: &mut [u8], at: usize)
 {
     let end = place(buffer, at, 1);
     buffer[end] = b'\n';
-    io::write_all(STDOUT_FILENO, &buffer[0..end + 1]);
+    io::write_all(STDOUT, &buffer[0..end + 1]);
 }
 
 // A number and a space.
@@ -97,6 +99,6 @@ pub(crate) fn print_bytes(bytes: &[u8]) {
 // A number without a sign, and what stands behind it.
 pub(crate) fn print_bits(n: u64, behind: u8) {
     let end = [behind];
-    io::print_decimal(STDOUT_FILENO, n);
-    io::write_all(STDOUT_FILENO, &end);
+    io::print_decimal(STDOUT, n);
+    io::write_all(STDOUT, &end);
 }

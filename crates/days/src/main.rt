@@ -1,4 +1,6 @@
 // Orientation records from the rows of finals2000A: rows on standard input; the first day, the number of days and the TAI-UTC of each day as words.
+#![tactic(auto)]
+
 ghost use Rattle.std.specs.Prelude.{◌≡◌, length, ◌≤◌};
 ghost use Rattle.bulletin.specs.Reading.{days_outcome};
 ghost use Rattle.days.specs.Text.{days_text_rule};
@@ -14,6 +16,7 @@ use console::input::read_input;
 use console::say::say;
 use explain::explain;
 use printed::days_text;
+use std::io::Read;
 use words::{read_words, say_usage};
 
 // Writes a text to standard output; the rows and the words say which text that is. Answers whether all of it was written.
@@ -61,10 +64,10 @@ struct Ran {
 
 // Reads the rows to the buffer, prints what they give, says what was refused and why, and tells the status to descriptor 3. The buffer has a byte more
 // than the rows may have, so that a longer input is seen to be too long.
-fn run(buffer: &mut [u8], first: i64, count: i64, tai: &[i64]) -> Ran
+fn run<R: Read>(stdin: &mut R, buffer: &mut [u8], first: i64, count: i64, tai: &[i64]) -> Ran
     ensures { RunPromise result buffer.new first count tai.now }
 {
-    let input = read_input(buffer);
+    let input = read_input(stdin, buffer);
     let n = input.bytes;
     let failed = input.failed;
     say_unread(failed, n);
@@ -84,15 +87,16 @@ fn run(buffer: &mut [u8], first: i64, count: i64, tai: &[i64]) -> Ran
 }
 
 // Of more than 67 words the first are kept: for 65 values of TAI-UTC or more no records are given, and the refusal is the same.
-fn main() {
+fn main(rt: HostRuntime) {
     let mut numbers = [0i64; 67];
-    let w = read_words(&mut numbers);
+    let w = read_words(&rt, &mut numbers);
     let n = w.kept;
     if n < 2 {
         say_usage(w.wrong);
         tell(2);
         return;
     }
+    let mut stdin = rt.stdin();
     let mut buffer = [0u8; 65537];
-    run(&mut buffer, numbers[0], numbers[1], &numbers[2..n]);
+    run(&mut stdin, &mut buffer, numbers[0], numbers[1], &numbers[2..n]);
 }

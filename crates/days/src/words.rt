@@ -4,6 +4,7 @@ ghost use Rattle.days.specs.Words.{few_digits_rule, parsed_of};
 
 use bulletin::{is_minus, past_minus};
 use console::say::{say, say_natural};
+use std::env::{Env, FillError};
 use text::decimal::{all_digits, read_natural};
 use whole::sign::with_sign;
 
@@ -45,11 +46,14 @@ fn number_in(s: &[u8]) -> Parsed
     }
 }
 
-// Word i. One that is longer than a sign and 18 digits is handed out as no bytes.
-fn word_at(i: usize) -> Parsed {
+// Word i, if there is one. One that is longer than a sign and 18 digits is handed out as no bytes.
+fn word_at<E: Env>(env: &E, i: usize) -> Option<Parsed> {
     let mut room = [0u8; 19];
-    let n = os::arg(i, &mut room);
-    number_in(&room[..n])
+    match env.arg(i, &mut room) {
+        Ok(n) => Some(number_in(&room[..n])),
+        Err(FillError::TooLong) => Some(number_in(&room[..0])),
+        Err(FillError::NotPresent) => None,
+    }
 }
 
 // How many words are kept as numbers, none where one is no whole number; and which one that is, counted from 1.
@@ -71,19 +75,18 @@ fn keep(numbers: &mut [i64], n: usize, z: i64) -> usize
 }
 
 // Reads all words to numbers, and keeps as many as there are places for.
-pub(crate) fn read_words(numbers: &mut [i64]) -> Words
+pub(crate) fn read_words<E: Env>(env: &E, numbers: &mut [i64]) -> Words
     ensures { result.kept ≤ length numbers.new }
 {
-    let n = os::arg_count();
     let mut kept: usize = 0;
-    let mut i: usize = 1;
-    while i < n {
-        let w = word_at(i);
+    for i in 1..usize::MAX {
+        let Some(w) = word_at(env, i) else {
+            break;
+        };
         if !w.right {
             return Words { kept: 0, wrong: i };
         }
         kept = keep(numbers, kept, w.value);
-        i += 1;
     }
     Words {
         kept: kept,

@@ -1,4 +1,6 @@
 // The program of document 01: a session file on standard input, its tracks on standard output.
+#![tactic(auto)]
+
 ghost use Rattle.std.specs.Prelude.{◌≡◌, ◌+◌, ◌<◌, ◌≤◌, length};
 ghost use Rattle.session.specs.Records.{check_of};
 ghost use Rattle.text.specs.Table.{refused_line};
@@ -14,6 +16,7 @@ use console::input::read_input;
 use ending::{passes_answered, say_line_lost, say_passes_lost};
 use explain::{explain_file, explain_passes};
 use lines::pass_text;
+use std::io::Read;
 use text::table::put_refused;
 use whole::sign::size;
 
@@ -141,10 +144,10 @@ pub struct Ran {
 
 // Reads a session file from standard input to the buffer, as far as it goes, prints its tracks, and tells the status to descriptor 3. The buffer has a byte
 // more than a file may have, so that a longer input is seen to be too long.
-pub fn run(buffer: &mut [u8]) -> Ran
+pub fn run<R: Read>(stdin: &mut R, buffer: &mut [u8]) -> Ran
     ensures { RunPromise result buffer.new }
 {
-    let input = read_input(buffer);
+    let input = read_input(stdin, buffer);
     let n = input.bytes;
     let failed = input.failed;
     say_unread(failed, n);
