@@ -1,4 +1,6 @@
 // The records of a session and the ranges of their fields, apart from any file. Document 01, 'Session file'.
+#![tactic(auto)]
+
 pub mod ranges;
 
 ghost use Rattle.std.specs.Prelude.{◌≡◌};
@@ -42,6 +44,7 @@ pub struct Pass {
 }
 
 // A record of each kind, from a row of numbers.
+#[tactic(auto, unfolding(crate::specs::Records::station_from_rule))]
 pub fn station_from(row: &[i64; 8]) -> Station
     ensures { result ≡ station_from_rule row.now }
 {
@@ -53,6 +56,7 @@ pub fn station_from(row: &[i64; 8]) -> Station
     }
 }
 
+#[tactic(auto, unfolding(crate::specs::Records::source_from_rule))]
 pub fn source_from(row: &[i64; 8]) -> Source
     ensures { result ≡ source_from_rule row.now }
 {
@@ -63,6 +67,7 @@ pub fn source_from(row: &[i64; 8]) -> Source
     }
 }
 
+#[tactic(auto, unfolding(crate::specs::Records::day_from_rule))]
 pub fn day_from(row: &[i64; 8]) -> Day
     ensures { result ≡ day_from_rule row.now }
 {
@@ -76,6 +81,7 @@ pub fn day_from(row: &[i64; 8]) -> Day
     }
 }
 
+#[tactic(auto, unfolding(crate::specs::Records::pass_from_rule))]
 pub fn pass_from(row: &[i64; 8]) -> Pass
     ensures { result ≡ pass_from_rule row.now }
 {
