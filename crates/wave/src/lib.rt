@@ -1,4 +1,6 @@
 // The delay of a plane wave between two stations, from their records, a source's record and the earth at an epoch. Document 01, 'Day values' and 'Delay'.
+#![tactic(auto)]
+
 pub mod plane;
 pub mod values;
 
@@ -13,7 +15,7 @@ use plane::{Baseline, Turn, delay_at, tick, turn_by};
 use values::Earth;
 
 // What is fixed in a pass: the baseline, the source, its right ascension as a tick, and the cosine and the sine of its declination.
-#[derive(Drop)]
+#[derive(Clone, Copy)]
 pub struct Sight {
     pub baseline: Baseline,
     pub source: Source,

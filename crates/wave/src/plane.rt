@@ -10,7 +10,7 @@ use whole::divide::round_div;
 use whole::long::{light_time, turned};
 
 // Station 2 less station 1, in millimetres.
-#[derive(Drop)]
+#[derive(Clone, Copy)]
 pub struct Baseline {
     pub x: i64,
     pub y: i64,
@@ -18,7 +18,7 @@ pub struct Baseline {
 }
 
 // The cosine and the sine of an angle.
-#[derive(Drop)]
+#[derive(Clone, Copy)]
 pub struct Turn {
     pub cos: i64,
     pub sin: i64,

@@ -18,7 +18,7 @@ use whole::divide::line_at;
 use whole::long::rotation_ticks;
 
 // As used at an epoch: the pole, UT1-UTC with the tide, and ERA.
-#[derive(Drop)]
+#[derive(Clone, Copy)]
 pub struct Earth {
     pub x: i64,
     pub y: i64,
@@ -27,7 +27,7 @@ pub struct Earth {
 }
 
 // The tide of one minute of TT, kept from one epoch to the next: it changes once a minute.
-#[derive(Drop)]
+#[derive(Clone, Copy)]
 pub struct Minute {
     pub n: i64,
     pub tide: i64,

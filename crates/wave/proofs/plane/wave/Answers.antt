@@ -1,0 +1,100 @@
+-- `wave::plane::wave` meets its contract.
+use Rattle.std.proofs.Common.{◌≡◌, ℕ, ◌^◌, ℤ, pos, ◌+ℤ◌, ◌-ℤ◌, ◌*ℤ◌, neg_ℤ, ap, ◌∙◌, le_trans, arith, lit≤}
+use lib.IntN.{+ℤ_idl}
+use Rattle.whole.specs.Whole.{R}
+use Rattle.whole.proofs.Linear.{ret}
+use Rattle.whole.proofs.Machine.{M, lit, var, ◌⊟◌, bounded, ok, is}
+use Rattle.whole.proofs.Quote.{⟨◌⟩, #, ◌⊕◌, ◌⊝◌, ◌⊗◌, by≡}
+use Rattle.sine.specs.Sine.{sine_of, cosine_of}
+use Rattle.wave.specs.declared.plane.Baseline.{Baseline}
+use Rattle.wave.specs.declared.plane.Turn.{Turn}
+use Rattle.wave.specs.Bounds.{Shifted, Turned}
+use Rattle.wave.specs.PlaneWave.{turn_of, equatorial, along_source, wave_of}
+use Rattle.wave.proofs.Sizes.{equatorial_size, along_size}
+use Rattle.wave.proofs.plane.wave.Goals as goal
+
+module _ (b : Baseline) (k : Shifted b) where
+  abbrev bx : M
+  bx = var b.x 12800062057 k.x_size
+
+  abbrev by : M
+  by = var b.y 12800062057 k.y_size
+
+  abbrev bz : M
+  bz = var b.z 12800124114 k.z_size
+
+module _ (t : Turn) (k : Turned t) where
+  abbrev cos : M
+  cos = var t.cos (2 ^ 30) k.cos_size
+
+  abbrev sin : M
+  sin = var t.sin (2 ^ 30) k.sin_size
+
+-- P of document 01
+p-is : (b : Baseline) (h : ℕ) (t : Turn) (p : ℤ) → t ≡ turn_of h → p ≡ R (b.x *ℤ t.cos +ℤ (pos 0 -ℤ b.y) *ℤ t.sin) (2 ^ 30) → p ≡ equatorial b h
+unfolding equatorial turn_of
+p-is b h t p et e =
+    e
+    ∙ ap (λ (t : Turn). R (b.x *ℤ t.cos +ℤ (pos 0 -ℤ b.y) *ℤ t.sin) (2 ^ 30)) et
+    ∙ ap (λ (z : ℤ). R z (2 ^ 30)) (by≡ (⟨ b.x ⟩ ⊗ ⟨ cosine_of h ⟩ ⊕ (# 0 ⊝ ⟨ b.y ⟩) ⊗ ⟨ sine_of h ⟩) (⟨ b.x ⟩ ⊗ ⟨ cosine_of h ⟩ ⊝ ⟨ b.y ⟩ ⊗ ⟨ sine_of h ⟩) (omega arith))
+
+abbrev big_p : (b : Baseline) (h : ℕ) (p : ℤ) → Shifted b → p ≡ equatorial b h → M
+big_p b h p k e = var p 25600124114 (rw e (equatorial_size b h k))
+
+-- G of document 01
+g-is : (b : Baseline) (h : ℕ) (d : Turn) (p g : ℤ) → p ≡ equatorial b h → g ≡ R (p *ℤ d.cos +ℤ b.z *ℤ d.sin) (2 ^ 30) → g ≡ along_source b h d
+unfolding along_source
+g-is b h d p g e f = f ∙ simp e
+
+abbrev big_g : (b : Baseline) (h : ℕ) (d : Turn) (g : ℤ) → Shifted b → Turned d → g ≡ along_source b h d → M
+big_g b h d g k l e = lit (pos 0) ⊟ var g 38400248228 (rw e (along_size b h d k l))
+
+pub overflow_sub-b : goal.overflow_sub-b
+overflow_sub-b c = ok (lit (pos 0) ⊟ by c.args.b c.requires.0) tt
+
+pub turned-p-requires : goal.turned-p-requires
+turned-p-requires c =
+    let x = bx c.args.b c.requires.0 in
+    let y = lit (pos 0) ⊟ by c.args.b c.requires.0 in
+    let u = cos c.turn_by-t.result c.turn_by-t.ensures.1 in
+    let v = sin c.turn_by-t.result c.turn_by-t.ensures.1 in
+    simp (is x tt, is y tt, is u tt, is v tt) (le_trans (bounded x) (lit≤ tt), le_trans (bounded y) (lit≤ tt), bounded u, bounded v)
+
+pub turned-g-requires : goal.turned-g-requires
+turned-g-requires c =
+    let b = c.args.b in
+    let d = c.args.d in
+    let t = c.turn_by-t in
+    let e = simp (is (bx b c.requires.0) tt, is (lit (pos 0) ⊟ by b c.requires.0) tt, is (cos t.result t.ensures.1) tt, is (sin t.result t.ensures.1) tt) at c.turned-p.ensures in
+    let p = big_p b c.args.h c.turned-p.result c.requires.0 (p-is b c.args.h t.result c.turned-p.result t.ensures.0 e) in
+    simp (is p tt, is (bz b c.requires.0) tt, is (cos d c.requires.1) tt, is (sin d c.requires.1) tt)
+    (le_trans (bounded p) (lit≤ tt), le_trans (bounded (bz b c.requires.0)) (lit≤ tt), bounded (cos d c.requires.1), bounded (sin d c.requires.1))
+
+along-is : (c : goal.After-turned-g) → c.turned-g.result ≡ along_source c.args.b c.args.h c.args.d
+along-is c =
+    let b = c.args.b in
+    let d = c.args.d in
+    let t = c.turn_by-t in
+    let e = simp (is (bx b c.requires.0) tt, is (lit (pos 0) ⊟ by b c.requires.0) tt, is (cos t.result t.ensures.1) tt, is (sin t.result t.ensures.1) tt) at c.turned-p.ensures in
+    let ep = p-is b c.args.h t.result c.turned-p.result t.ensures.0 e in
+    let p = big_p b c.args.h c.turned-p.result c.requires.0 ep in
+    g-is b c.args.h d c.turned-p.result c.turned-g.result ep
+    (simp (is p tt, is (bz b c.requires.0) tt, is (cos d c.requires.1) tt, is (sin d c.requires.1) tt) at c.turned-g.ensures)
+
+abbrev g : goal.After-turned-g → M
+g c = big_g c.args.b c.args.h c.args.d c.turned-g.result c.requires.0 c.requires.1 (along-is c)
+
+pub overflow_sub-g : goal.overflow_sub-g
+overflow_sub-g c = ok (g c) tt
+
+pub light_time-requires : goal.light_time-requires
+light_time-requires c = rw (is (g c) tt) (le_trans (bounded (g c)) (lit≤ tt))
+
+pub returns : goal.returns
+unfolding wave_of
+returns c =
+    let k = c.before in
+    ret c.light_time.result c.light_time.type_inv
+    ∙ rw (is (g k) tt) at c.light_time.ensures
+    ∙ ap (λ (z : ℤ). R (z *ℤ pos 1000000000) 299792458)
+    (ap (λ (z : ℤ). pos 0 -ℤ z) (along-is k) ∙ +ℤ_idl (neg_ℤ (along_source c.args.b c.args.h c.args.d)))
