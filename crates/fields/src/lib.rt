@@ -6,7 +6,7 @@ pub mod ranges;
 ghost use Rattle.std.specs.Prelude.{◌≡◌};
 ghost use Rattle.fields.specs.Records.{station_from_rule, source_from_rule, day_from_rule, pass_from_rule};
 
-#[derive(Drop)]
+#[derive(Clone, Copy)]
 pub struct Station {
     pub id: i64,
     pub x: i64,
@@ -14,7 +14,7 @@ pub struct Station {
     pub z: i64,
 }
 
-#[derive(Drop)]
+#[derive(Clone, Copy)]
 pub struct Source {
     pub id: i64,
     pub right_ascension: i64,
