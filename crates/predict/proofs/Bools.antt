@@ -4,7 +4,7 @@ use mathlib.Core.Bool.{Bool, true, false, ◌&&◌}
 use Prim.Native.Nat.{◌+◌, ◌≤◌}
 use native.Mathlib.Omega.{arith}
 use lib.Dec.{T}
-use lib.IntN.{ℤ, pos, ◌+ℤ◌, ◌-ℤ◌, +ℤ_idr}
+use lib.IntN.{ℤ, pos, ◌-ℤ◌, +ℤ_idr}
 use lib.Signed.{le_z, ◌≤ℤ◌}
 use Rattle.whole.specs.Whole.{pos_part, neg_part, ∣◌∣}
 use Rattle.whole.proofs.Linear.{le_z_true, le_z_false, le⇒, size_to}

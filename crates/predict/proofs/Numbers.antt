@@ -21,7 +21,8 @@ use Rattle.whole.proofs.Each.{below_each}
 use Rattle.whole.proofs.Tests.{and_no}
 use Rattle.track.specs.Segments.{Segment, flat}
 use Rattle.predict.specs.declared.segment.Lent.{Lent}
-use Rattle.predict.specs.Lent.{lent_of, lent_at, as_lent, predicted, place_ok_rule, length_ok_rule, range_ok_rule, predictions_ok, segment_ok_rule, sound_from, covers, covered_by, prediction_at_rule, answer_at}
+pub use Rattle.predict.specs.Lent.{lent_at}
+use Rattle.predict.specs.Lent.{lent_of, as_lent, predicted, place_ok_rule, place_in_rule, length_ok_rule, range_ok_rule, predictions_ok, segment_ok_rule, sound_from, covers, covered_by, prediction_at_rule, answer_at}
 use Rattle.predict.specs.Ends.{reach}
 use Rattle.predict.proofs.Reach.{round_reach}
 
@@ -79,7 +80,7 @@ above_zero : (c : ℤ) → le_z (pos 1) c ≡ true → c ≡ pos (pos_part c)
 above_zero (pos n) h = refl
 above_zero (negsuc n) h = no_ft h
 
-pub placed : (n at : ℕ) (x : Lent) → place_ok_rule n at x ≡ true → length_ok_rule x ≡ true → Placed n at x
+pub placed : (n at : ℕ) (x : Lent) → place_in_rule n at x ≡ true → length_ok_rule x ≡ true → Placed n at x
 placed n at x p q =
     let f = and_true (eq_z (pos at) x.first) (le_z (pos at +ℤ x.count) (pos n)) p in
     let e = and_true (le_z (pos at) x.first) (le_z x.first (pos at)) f.0 in
@@ -103,19 +104,36 @@ in_bounds x h = let r = and_true (leb ∣ x.offset ∣ 9_000_000_000_000_000) (l
 pub record Good (at : ℕ) (x : Lent) : Type 0 where
   pub stands : Placed 4096 at x
   pub in_range_lem : range_ok_rule x ≡ true
+  pub first : x.first ≡ pos at
+  pub count : x.count ≡ pos (pos_part x.count)
+  pub size : ∣ x.count ∣ ≡ pos_part x.count
+  pub some : 1 ≤ pos_part x.count
+  pub cap : pos_part x.count ≤ 1024
+  pub room : at + pos_part x.count ≤ 4096
+  pub offset : ∣ x.offset ∣ ≤ 9_000_000_000_000_000
+  pub rate : ∣ x.rate ∣ ≤ 20_000_000_000_000_000
   pub predictions : (j : ℕ) → j < pos_part x.count → ∣ predicted x (pos j) ∣ ≤ 131_000_000_000
   pub reached : (j : ℕ) → j < pos_part x.count → ∣ x.offset +ℤ x.rate *ℤ pos j ∣ ≤ reach
 
 pub good : (at : ℕ) (x : Lent) → segment_ok_rule at x ≡ true → Good at x
 unfolding segment_ok_rule predictions_ok
 good at x h =
-    let a = and_true (place_ok_rule 4096 at x && length_ok_rule x && range_ok_rule x) (predictions_ok x) h in
-    let b = and_true (place_ok_rule 4096 at x && length_ok_rule x) (range_ok_rule x) a.0 in
-    let p = and_true (place_ok_rule 4096 at x) (length_ok_rule x) b.0 in
+    let a = and_true (place_ok_rule at x && length_ok_rule x && range_ok_rule x) (predictions_ok x) h in
+    let b = and_true (place_ok_rule at x && length_ok_rule x) (range_ok_rule x) a.0 in
+    let p = and_true (place_ok_rule at x) (length_ok_rule x) b.0 in
     let q : (j : ℕ) → j < pos_part x.count → leb ∣ predicted x (pos j) ∣ 131_000_000_000 ≡ true = λ j k. below_each (pos_part x.count) j (λ i. leb ∣ predicted x (pos i) ∣ 131_000_000_000) k a.1 in
+    let s = placed 4096 at x p.0 p.1 in
     record {
-      stands = placed 4096 at x p.0 p.1;
+      stands = s;
       in_range_lem = b.1;
+      first = s.first;
+      count = s.count;
+      size = s.size;
+      some = s.some;
+      cap = s.cap;
+      room = s.room;
+      offset = (in_bounds x b.1).0;
+      rate = (in_bounds x b.1).1;
       predictions = λ j k. leb-true ∣ predicted x (pos j) ∣ 131_000_000_000 (q j k);
       reached = λ j k. leb-true ∣ x.offset +ℤ x.rate *ℤ pos j ∣ reach (sym (round_reach (x.offset +ℤ x.rate *ℤ pos j)) ∙ q j k);
     }

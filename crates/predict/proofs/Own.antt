@@ -24,7 +24,7 @@ use Rattle.whole.proofs.Each.{below_all}
 use Rattle.whole.proofs.Tests.{and_yes}
 use Rattle.track.proofs.Ranged.{ranged}
 use Rattle.track.proofs.Theorems.{track_of_ruled}
-use Rattle.predict.specs.Lent.{lent_of, as_lent, predicted, place_ok_rule, length_ok_rule, predictions_ok, segment_ok_rule, sound_from, answer_at, predict_outcome}
+use Rattle.predict.specs.Lent.{lent_of, as_lent, predicted, place_in_rule, length_ok_rule, predictions_ok, segment_ok_rule, sound_from, answer_at, predict_outcome}
 use Rattle.predict.specs.Ends.{reach}
 use Rattle.predict.proofs.Reach.{round_reach, line_start}
 use Rattle.predict.proofs.Numbers.{Good, good, covered, passed}
@@ -55,7 +55,7 @@ module _ (z v : ℤ) (t : ℕ) (h : ∣ z -ℤ pos 65536 *ℤ v ∣ ≤ 65536 * 
 
 -- a segment that stands in a track has its place there, where n samples are the most, and its length
 module _ {s : List ℤ} {t : ℕ} where
-  pub stands-place : (n f : ℕ) (x : Segment) → length s ≤ n → Stands s t f x → place_ok_rule n f (as_lent x) ≡ true
+  pub stands-place : (n f : ℕ) (x : Segment) → length s ≤ n → Stands s t f x → place_in_rule n f (as_lent x) ≡ true
   stands-place n f x most a = and_yes
       (and_yes (le-leb f x.first (omega (arith, a.first))) (le-leb x.first f (omega (arith, a.first)))) (le-leb (f + x.count) n (omega (arith, a.within)))
 

@@ -8,9 +8,10 @@ use Rattle.whole.specs.Ranges.{within, eq_z}
 use Rattle.whole.specs.Answers.{answer_by}
 use Rattle.whole.specs.Refusals.{unless, lowest}
 use Rattle.track.specs.Segments.{Segment}
-use Rattle.predict.specs.declared.segment.Lent.{Lent}
+-- a segment's four numbers, as they are lent: first, count, offset, rate
+pub use Rattle.predict.specs.declared.segment.Lent.{Lent}
 
--- the whole segments of a list of numbers; `Lent` holds the four numbers of one as they are lent: first, count, offset, rate
+-- the whole segments of a list of numbers
 unfoldable pub lent_of : List ℤ → List Lent
 lent_of (f ∷ c ∷ A ∷ r ∷ rest) = record { first = f; count = c; offset = A; rate = r } ∷ lent_of rest
 lent_of (f ∷ c ∷ A ∷ []) = []
@@ -28,9 +29,9 @@ predicted x j = R (x.offset +ℤ x.rate *ℤ j) 65536
 
 -- ---- the four conditions that a segment must meet, where `at` samples stand before it
 
--- place: no gap and no overlap, the first segment at 0, and at most n samples in all
-abbrev pub place_ok_rule : ℕ → ℕ → Lent → Bool
-place_ok_rule n at x = eq_z (pos at) x.first && le_z (pos at +ℤ x.count) (pos n)
+-- place: no gap and no overlap, the first segment at 0, and 4,096 samples at most in all
+abbrev pub place_ok_rule : ℕ → Lent → Bool
+place_ok_rule at x = le_z (pos at) x.first && le_z x.first (pos at) && le_z (pos at +ℤ x.count) (pos 4096)
 
 -- length: from 1 to 1,024
 abbrev pub length_ok_rule : Lent → Bool
@@ -45,12 +46,16 @@ unfoldable pub predictions_ok : Lent → Bool
 predictions_ok x = all_below (pos_part x.count) (λ j. leb ∣ predicted x (pos j) ∣ 131_000_000_000)
 
 unfoldable pub segment_ok_rule : ℕ → Lent → Bool
-segment_ok_rule at x = place_ok_rule 4096 at x && length_ok_rule x && range_ok_rule x && predictions_ok x
+segment_ok_rule at x = place_ok_rule at x && length_ok_rule x && range_ok_rule x && predictions_ok x
 
 -- no segment is malformed, from the one that `at` samples stand before
 unfoldable pub sound_from : ℕ → List Lent → Bool
 sound_from at [] = true
 sound_from at (x ∷ xs) = segment_ok_rule at x && sound_from (at + pos_part x.count) xs
+
+-- the same of place, where n samples are the most in all
+abbrev pub place_in_rule : ℕ → ℕ → Lent → Bool
+place_in_rule n at x = eq_z (pos at) x.first && le_z (pos at +ℤ x.count) (pos n)
 
 -- ---- the answers
 

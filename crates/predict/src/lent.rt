@@ -16,7 +16,7 @@ pub fn sound(track: &[i64]) -> bool
     let mut i: usize = 0;
     while i < m {
         let x = lent_at(track, i);
-        if !segment_ok(at, x) {
+        if !segment_ok(at, x.first, x.count, x.offset, x.rate) {
             return false;
         }
         at += size(x.count);

@@ -1,5 +1,7 @@
 // The delay that a lent track predicts at a sample, and the host record of it. Document 01, 'Track' and refusal 9.
 // specs/Lent.antt says which tracks are malformed and what a sound one predicts; specs/Host.antt what the record holds.
+#![tactic(auto)]
+
 ghost use Rattle.predict.specs.Promises.{PredictPromise, HostPromise};
 
 use whole::Number;

@@ -1,14 +1,15 @@
 // A segment of a lent track, and the four conditions on it, one by one.
-ghost use Rattle.std.specs.Prelude.{◌≡◌, ◌+◌, ◌*◌, ◌≤◌, ◌<◌, pos, ◌≤ℤ◌, length};
+ghost use Rattle.std.specs.Prelude.{◌≡◌, ◌+◌, ◌*◌, ◌≤◌, ◌<◌, ◌&&◌, leb, pos, ◌+ℤ◌, ◌≤ℤ◌, length};
+ghost use Rattle.std.specs.Int.Signed.{le_z};
 ghost use Rattle.whole.specs.Whole.{∣◌∣};
-ghost use Rattle.predict.specs.Lent.{lent_at, place_ok_rule, length_ok_rule, range_ok_rule, segment_ok_rule};
+ghost use Rattle.predict.specs.Lent.{lent_at, place_in_rule, length_ok_rule, range_ok_rule, segment_ok_rule};
 ghost use Rattle.predict.specs.Ends.{ends_ok_rule};
 
 use whole::long::within;
 use whole::sign::{in_range, size};
 
 // The four numbers of a segment, whatever they are.
-#[derive(Drop)]
+#[derive(Clone, Copy)]
 pub struct Lent {
     pub first: i64,
     pub count: i64,
@@ -31,9 +32,9 @@ pub fn lent_at(track: &[i64], i: usize) -> Lent
 }
 
 // Place: it starts where the one before it ended, and ends at sample n or before.
-pub fn place_ok(n: u64, at: u64, x: Lent) -> bool
+pub fn place_in(n: u64, at: u64, x: Lent) -> bool
     requires { (at ≤ n) × (n ≤ 4096) }
-    ensures { result ≡ place_ok_rule n at x }
+    ensures { result ≡ place_in_rule n at x }
 {
     let a = at as i64;
     if x.first != a {
@@ -50,13 +51,35 @@ pub fn length_ok(x: Lent) -> bool
 }
 
 // Range: its offset and its rate.
-pub fn range_ok(x: Lent) -> bool
+pub fn bounds_ok(x: Lent) -> bool
     ensures { result ≡ range_ok_rule x }
 {
     if 9_000_000_000_000_000 < size(x.offset) {
         return false;
     }
     size(x.rate) <= 20_000_000_000_000_000
+}
+
+// Place: it starts where the one before it ended, and ends at sample 4,096 or before.
+fn place_ok(at: u64, first: i64, count: i64) -> bool
+    requires { at ≤ 4096 }
+    ensures { result ≡ (le_z (pos at) first && le_z first (pos at) && le_z (pos at +ℤ count) (pos 4096)) }
+{
+    let a = at as i64;
+    if first != a {
+        return false;
+    }
+    count <= 4096 - a
+}
+
+// Range: its offset and its rate.
+fn range_ok(offset: i64, rate: i64) -> bool
+    ensures { result ≡ (leb ∣ offset ∣ 9_000_000_000_000_000 && leb ∣ rate ∣ 20_000_000_000_000_000) }
+{
+    if 9_000_000_000_000_000 < size(offset) {
+        return false;
+    }
+    size(rate) <= 20_000_000_000_000_000
 }
 
 // Predictions: those at its first and its last sample, between which all others lie.
@@ -72,18 +95,18 @@ fn ends_ok(offset: i64, rate: i64, count: i64) -> bool
 }
 
 // Whether a segment that `at` samples stand before is well-formed.
-pub fn segment_ok(at: u64, x: Lent) -> bool
+pub fn segment_ok(at: u64, first: i64, count: i64, offset: i64, rate: i64) -> bool
     requires { at ≤ 4096 }
-    ensures { result ≡ segment_ok_rule at x }
+    ensures { result ≡ segment_ok_rule at (record { first = first; count = count; offset = offset; rate = rate }) }
 {
-    if !place_ok(4096, at, x) {
+    if !place_ok(at, first, count) {
         return false;
     }
-    if !length_ok(x) {
+    if !in_range(count, 1, 1024) {
         return false;
     }
-    if !range_ok(x) {
+    if !range_ok(offset, rate) {
         return false;
     }
-    ends_ok(x.offset, x.rate, x.count)
+    ends_ok(offset, rate, count)
 }
