@@ -1,5 +1,7 @@
 // Lines through runs of samples: whether some whole-number offset and rate fit a run, how long a run can be, and its least rate and offset.
 // Document 01, 'Track'. See specs/Line.antt for what a fit is, and specs/Rates.antt for the numbers that the code works with.
+#![tactic(auto)]
+
 mod chain;
 pub mod line;
 pub mod run;
