@@ -34,6 +34,7 @@ pub fn is_minus(s: &[u8]) -> bool
 }
 
 // What stands behind it.
+#[tactic(auto, using(crate::proofs::FormLaws::rest_is), unfolding(crate::specs::Decimals::is_minus_rule, crate::specs::Decimals::past_minus_rule))]
 pub fn past_minus(s: &[u8]) -> &[u8]
     ensures { result.now ≡ past_minus_rule s.now }
 {

@@ -1,4 +1,6 @@
 // Orientation days from the rows of finals2000A, the text that the IERS publishes, and such rows from days. Document 02, L3.
+#![tactic(auto)]
+
 mod form;
 pub mod layout;
 pub mod listing;

@@ -10,6 +10,7 @@ use text::lines::line_end;
 use whole::divide::floor_div;
 
 // Whether a row has a day.
+#[tactic(auto, using(crate::proofs::ColumnLaws::mjd_apt), unfolding(crate::specs::Rows::has_day_rule))]
 fn has_day(row: &[u8]) -> bool
     ensures { result ≡ has_day_rule row.now }
 {
@@ -20,6 +21,7 @@ fn has_day(row: &[u8]) -> bool
 }
 
 // The day of a row that has one.
+#[tactic(auto, using(crate::proofs::ColumnLaws::mjd_apt), unfolding(crate::specs::Rows::has_day_rule, crate::specs::Rows::day_in_rule))]
 fn day_in(row: &[u8]) -> i64
     requires { has_day_rule row.now ≡ true }
     ensures { result ≡ day_in_rule row.now }

@@ -29,6 +29,7 @@ fn record_at(numbers: &[i64], i: usize) -> Day
 }
 
 // Whether a record can stand in a row.
+#[tactic(auto, unfolding(crate::specs::Writing::can_stand_rule))]
 fn can_stand(d: Day) -> bool
     ensures { result ≡ can_stand_rule d }
 {
@@ -57,6 +58,7 @@ fn all_can_stand(numbers: &[i64], records: usize) -> bool
 }
 
 // Whether the list has a right number of whole records, each of which can stand in a row.
+#[tactic(auto, unfolding(crate::specs::Writing::list_right_rule))]
 pub fn list_right(numbers: &[i64]) -> bool
     ensures { result ≡ list_right_rule numbers.now }
 {

@@ -20,6 +20,7 @@ use whole::sign::{number, size};
 pub const DAY_COUNT: Range = Range { low: 2, high: 64 };
 
 // Whether each field of a record but the mark is in its range.
+#[tactic(auto, unfolding(crate::specs::Reading::in_ranges_rule))]
 pub fn in_ranges(d: Day) -> bool
     ensures { result ≡ in_ranges_rule d }
 {

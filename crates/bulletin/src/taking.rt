@@ -43,6 +43,7 @@ pub fn is_asked(d: i64, first: i64, count: i64) -> bool
 }
 
 // Whether x, y and UT1-UTC of a row are decimals.
+#[tactic(auto, using(crate::proofs::ColumnLaws::x_apt, crate::proofs::ColumnLaws::y_apt, crate::proofs::ColumnLaws::ut1_apt), unfolding(crate::specs::Rows::is_filled_rule))]
 fn is_filled(row: &[u8]) -> bool
     ensures { result ≡ is_filled_rule row.now }
 {
