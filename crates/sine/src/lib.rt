@@ -1,3 +1,5 @@
+#![tactic(auto)]
+
 ghost use Rattle.std.specs.Prelude.{◌≡◌, ◌-◌, ◌*◌, ◌/◌, ◌%◌, ◌^◌, ◌<◌, ◌≤◌, if◌then◌else◌};
 ghost use Rattle.sine.specs.Sine.{y_of_rule, z_of, step_of, S};
 ghost use Rattle.sine.specs.Promises.{SinePromise, CosinePromise};
