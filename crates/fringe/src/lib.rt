@@ -1,5 +1,7 @@
 // What reaches across the layers: the track of a pass, which specs/PassTrack.antt defines, the tracks of all passes, specs/AllTracks.antt, and the table of
 // document 01's starred cases, specs/Starred.antt.
+#![tactic(auto)]
+
 mod single;
 mod together;
 
