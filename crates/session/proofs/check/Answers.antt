@@ -1,8 +1,8 @@
-use mathlib.Core.Path.{sym, ◌∙◌}
+use mathlib.Core.Path.{◌≡◌, sym, ◌∙◌}
 use native.Mathlib.Omega.{arith}
 use lib.IntN.{pos}
 use Rattle.whole.proofs.Linear.{ret}
-use Rattle.sections.specs.File.{count_of_rule}
+use Rattle.sections.specs.File.{kind_of, count_of_rule}
 use Rattle.sections.proofs.Shapes.{today}
 use Rattle.sections.proofs.Accepted.{accepted_contents}
 use Rattle.session.proofs.Answers.{number_back, check_refused, check_accepted}
@@ -24,5 +24,6 @@ returns c =
     let f1 = number_back c.number-3.result _ (count_of_rule s 1) c.number-3.type_inv c.number-3.ensures (omega (arith, c.count_of-2.ensures.0)) in
     let f2 = number_back c.number-4.result _ (count_of_rule s 2) c.number-4.type_inv c.number-4.ensures (omega (arith, c.count_of-3.ensures.0)) in
     let f3 = number_back c.number-5.result _ (count_of_rule s 3) c.number-5.type_inv c.number-5.ensures (omega (arith, c.count_of-4.ensures.0)) in
-    let k = ret c.kind_number.result c.kind_number.type_inv ∙ c.kind_number.ensures in
+    let e : c.kind_number.result ≡ pos (kind_of s 2) = cc in
+    let k = ret c.kind_number.result c.kind_number.type_inv ∙ e in
     (λ j. record { refusal = pos 0; stations = f0 j; sources = f1 j; days = f2 j; passes = f3 j; day_kind = k j }) ∙ sym (check_accepted s (sym c.refusal_of-n.ensures.0 ∙ c.if-n-ne0.false))
