@@ -13,7 +13,7 @@ apart s A r f j = A +ℤ r *ℤ pos j -ℤ pos 65536 *ℤ sample s (f + j)
 
 -- "It fits if |A + r·j - 65,536·(sample j of the segment)| is at most 65,536·tolerance for each j from 0": of the c samples from f on.
 abbrev pub Fits : List ℤ → ℕ → ℤ → ℤ → ℕ → ℕ → Type 0
-Fits s t A r f c = (j : ℕ) → j < c → ∣ apart s A r f j ∣ ≤ 65536 * t
+Fits s t A r f c = (j : ℕ) → j < c → ∣ A +ℤ r *ℤ pos j -ℤ pos 65536 *ℤ sample s (f + j) ∣ ≤ 65536 * t
 
 -- "plain samples, each within ±130,000,000,000"
 abbrev pub Small : List ℤ → Type 0
