@@ -1,4 +1,6 @@
 // The session file, written. Document 01, 'Session file'.
+#![tactic(auto)]
+
 ghost use Rattle.std.specs.Prelude.{◌≡◌, true, [], ◌∷◌, ◌+◌, ◌*◌, ◌≤◌, length, pos};
 ghost use Rattle.text.specs.Bytes.{pasted, words_of, bytes_of_all};
 ghost use Rattle.text.specs.Put.{Put};
@@ -18,7 +20,7 @@ use whole::sign::number;
 use whole::{Number, no_number};
 
 // The kinds that the four places are to have.
-#[derive(Drop)]
+#[derive(Clone, Copy)]
 pub struct Kinds {
     pub first: usize,
     pub second: usize,

@@ -1,0 +1,47 @@
+-- `judged` by the ways in which it ends: wrong lists, a file that the reader refuses, a room too short, no refusal.
+use Rattle.std.proofs.Common.{sym, ap, ◌∙◌, arith}
+use lib.Seq.{length-take-le}
+use Rattle.text.proofs.Puts.{put_inside, put_start}
+use Rattle.sections.specs.File.{refusal_of_rule}
+use Rattle.sections.proofs.Shapes.{today}
+use Rattle.writer.proofs.Longest.{made-short}
+use Rattle.writer.proofs.Outcomes.{by_lists, by_reader, by_short, by_file}
+use Rattle.writer.proofs.judged.Goals as goal
+
+-- the lists are wrong: 1
+pub returns-then-not-lists_right : goal.returns-then-not-lists_right
+returns-then-not-lists_right c = (sym (by_lists today _ _ _ (sym c.lists_right.ensures ∙ c.if-not-lists_right.true)), omega arith)
+
+pub encode-n-requires : goal.encode-n-requires
+encode-n-requires c =
+    let s = sym c.lists_right.ensures ∙ c.if-not-lists_right.false in
+    (s, made-short _ _ s)
+
+pub slice_bounds-file-end : goal.slice_bounds-file-end
+slice_bounds-file-end c = omega (arith, put_inside c.encode-n.ensures)
+
+pub slice_bounds-refusal_of-end : goal.slice_bounds-refusal_of-end
+slice_bounds-refusal_of-end c = sym (length-take-le _ _ (put_inside c.encode-n.ensures))
+
+-- the reader refuses the file: its number
+pub returns-then-by_reader-ne0 : goal.returns-then-by_reader-ne0
+returns-then-by_reader-ne0 c =
+    let s = sym c.lists_right.ensures ∙ c.if-not-lists_right.false in
+    let f = c.refusal_of-by_reader.ensures.0 ∙ ap refusal_of_rule (put_start c.encode-n.ensures) in
+    (f ∙ sym (by_reader today _ _ _ s (λ z. c.if-by_reader-ne0.true (f ∙ z))), omega arith)
+
+-- the room is too short: 7
+pub returns-then-room-n : goal.returns-then-room-n
+returns-then-room-n c =
+    let s = sym c.lists_right.ensures ∙ c.if-not-lists_right.false in
+    let p = c.encode-n.ensures in
+    let f = sym (ap refusal_of_rule (put_start p)) ∙ sym c.refusal_of-by_reader.ensures.0 ∙ c.if-by_reader-ne0.false in
+    (sym (by_short today _ _ _ s f (omega (arith, p.place, c.if-room-n.true))), omega arith)
+
+-- the file is accepted and the room is long enough
+pub returns : goal.returns
+returns c =
+    let s = sym c.lists_right.ensures ∙ c.if-not-lists_right.false in
+    let p = c.encode-n.ensures in
+    let f = sym (ap refusal_of_rule (put_start p)) ∙ sym c.refusal_of-by_reader.ensures.0 ∙ c.if-by_reader-ne0.false in
+    (sym (by_file today _ _ _ s f (omega (arith, p.place, c.if-room-n.false))), omega arith)
