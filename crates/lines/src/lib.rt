@@ -1,4 +1,6 @@
 // The text that the program prints of a file, put into a lent room: specs/Text.antt says what it is.
+#![tactic(auto)]
+
 ghost use Rattle.std.specs.Prelude.{◌≡◌, ◌≤◌, length};
 ghost use Rattle.text.specs.Put.{Put};
 ghost use Rattle.lines.specs.Text.{pass_line, pass_text_rule, lent_outcome};
