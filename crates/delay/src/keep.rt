@@ -16,14 +16,14 @@ use wave::values::{Minute, earth_at, minute_at, minutes_by};
 use wave::{Sight, delay_seen};
 
 // The records of a day and of the next, and the tide of a minute.
-#[derive(Drop)]
+#[derive(Clone, Copy)]
 pub struct Kept {
     pub days: Days,
     pub minute: Minute,
 }
 
 // A delay, and what is kept for the next.
-#[derive(Drop)]
+#[derive(Clone, Copy)]
 pub struct Sampled {
     pub delay: i64,
     pub kept: Kept,

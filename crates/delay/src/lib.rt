@@ -1,4 +1,6 @@
 // The orientation of the earth, delays, and the samples of a pass, from a session file. Document 01, 'Day values' and 'Delay'.
+#![tactic(auto)]
+
 mod keep;
 mod pass;
 mod records;
@@ -22,7 +24,7 @@ use whole::{Number, no_number};
 
 // As used at an epoch: the pole, UT1-UTC with the tide, and ERA.
 #[repr(C)]
-#[derive(Drop)]
+#[derive(Clone, Copy)]
 pub struct EarthAnswer {
     pub refusal: i64,
     pub x: i64,

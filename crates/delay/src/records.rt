@@ -18,7 +18,7 @@ use wave::values::{Earth, earth_at, minutes_by, reduced};
 use wave::{Sight, sight_of};
 
 // Where the records of two stations and of a source stand, each in its section.
-#[derive(Drop)]
+#[derive(Clone, Copy)]
 pub struct Places {
     pub first: usize,
     pub second: usize,
@@ -26,7 +26,7 @@ pub struct Places {
 }
 
 // The records of a day and of the next, both with UT1R.
-#[derive(Drop)]
+#[derive(Clone, Copy)]
 pub struct Days {
     pub day: i64,
     pub today: Day,

@@ -1,0 +1,37 @@
+-- `delay::keep::today_at` meets its contract.
+use Rattle.std.proofs.Common.{rules, ◌≡◌, ℕ, true, List, ℤ, pos, ◌+ℤ◌, ◌-ℤ◌, sym, ap, ◌∙◌, arith, w64, to_z}
+use Rattle.whole.proofs.Linear.{back, ret}
+use Rattle.whole.proofs.Machine.{M, lit, ◌⊟◌, ok, is}
+use Rattle.whole.proofs.Quote.{⟨◌⟩, #, ◌⊕◌, ◌⊝◌, by≡}
+use Rattle.earth.proofs.Floors.{leaf}
+use Rattle.sections.specs.File.{refusal_of_rule}
+use Rattle.session.specs.Records.{day_by}
+use Rattle.wave.specs.Keeping.{reduced_of}
+use Rattle.delay.specs.declared.records.Days.{Days}
+use Rattle.delay.specs.Sessions.{has_id, covers}
+use Rattle.delay.proofs.Covered.{both_there, day_in_lem}
+use Rattle.delay.proofs.keep.today_at.Goals as goal
+
+abbrev yesterday : (s : List ℕ) (d : ℤ) → refusal_of_rule s ≡ 0 → covers s d ≡ true → M
+yesterday s d h k = leaf d (day_in_lem s d h k) ⊟ lit (pos 1)
+
+pub overflow_sub-day : goal.overflow_sub-day
+overflow_sub-day c = ok (yesterday c.args.s.now c.args.day c.requires.0 c.requires.1) tt
+
+pub returns-then-kept-day : goal.returns-then-kept-day
+returns-then-kept-day c =
+    let k = c.args.kept in
+    let d = c.args.day in
+    let before : k.day ≡ d -ℤ pos 1 =
+    sym (ret k.day (search rules)) ∙ ap (to_z w64) c.if-kept-day.true ∙ is (yesterday c.args.s.now d c.requires.0 c.requires.1) tt
+    in
+    ap (λ (x : Days). x.next) c.requires.2
+    ∙ ap (λ (x : ℤ). reduced_of (day_by c.args.s.now x)) (ap (λ (x : ℤ). x +ℤ pos 1) before ∙ by≡ (⟨ d ⟩ ⊝ # 1 ⊕ # 1) ⟨ d ⟩ (omega arith))
+
+pub day_in-requires : goal.day_in-requires
+day_in-requires c =
+    let s = c.args.s.now in
+    (c.requires.0, ap (has_id s 2) (back c.ranges.day) ∙ (both_there s c.args.day c.requires.0 c.requires.1).0)
+
+pub returns : goal.returns
+returns c = c.day_in.ensures ∙ ap (λ (d : ℤ). reduced_of (day_by c.args.s.now d)) (back c.ranges.day)
