@@ -25,7 +25,7 @@
  *
  * Building
  *   The library is one archive, liberlensieg.a, for x86-64 Linux:
- *       gcc your.c -Iinclude -Ltarget/staticlib -lerlensieg                    in the repository
+ *       gcc your.c -Iinclude -Lcrates/erlensieg/out -lerlensieg                in the repository
  *       gcc your.c $(pkg-config --cflags --libs erlensieg)                     after `examples/install PREFIX`
  *   For the second, PKG_CONFIG_PATH has PREFIX/lib/pkgconfig. On another processor it takes a cross compiler for x86-64
  *   and an emulator, as examples/run-host shows. This header is C99, C11 or C++17. The archive needs memcpy and memset

@@ -1,8 +1,6 @@
-"""Runs a proved program of the repository as `rt` does: under the kit's loader and C library, and its emulator where it has one."""
+"""Runs a proved program of the repository: the one that `rt ci` or `rt run` left in its crate's folder out/."""
 
 import os
-import platform
-import shutil
 import subprocess
 
 ROOT = os.path.dirname(os.path.dirname(os.path.abspath(__file__)))
@@ -15,23 +13,12 @@ def crates():
     return [line.split(":")[0].strip() for line in stripped if line]
 
 
-def toolchain():
-    rt = shutil.which("rt")
-    if rt is None:
-        raise FileNotFoundError("rt is not on the path")
-    kit = os.path.dirname(os.path.dirname(os.path.realpath(rt)))
-    return os.path.join(kit, "on", platform.machine(), "toolchain")
-
-
 def command(name):
-    """The words that run target/bin/NAME; an error where it was not built."""
-    program = os.path.join(ROOT, "target", "bin", name)
+    """The word that runs the program of crate NAME; an error where it was not built."""
+    program = os.path.join(ROOT, "crates", name, "out", name)
     if not os.path.exists(program):
-        raise FileNotFoundError("target/bin/%s is not there: run `rt check %s`" % (name, name))
-    tools = toolchain()
-    emulator = os.path.join(tools, "bin", "qemu-x86_64")
-    loader = [os.path.join(tools, "lib", "ld-linux-x86-64.so.2"), "--library-path", os.path.join(tools, "lib")]
-    return ([emulator] if os.access(emulator, os.X_OK) else []) + loader + [program]
+        raise FileNotFoundError("crates/%s/out/%s is not there: run `rt ci`, or `rt run` in crates/%s" % (name, name, name))
+    return [program]
 
 
 def run(words, stdin, kept=()):

@@ -11,7 +11,7 @@ from rattle import ROOT
 STANDARDS = ("c99", "c11", "c++17")
 HEADER = os.path.join(ROOT, "include", "erlensieg.h")
 INCLUDE = ["-I" + os.path.join(ROOT, "include")]
-ARCHIVE = os.path.join(ROOT, "target", "staticlib", "liberlensieg.a")
+ARCHIVE = os.path.join(ROOT, "crates", "erlensieg", "out", "liberlensieg.a")
 LINK = ["-L" + os.path.dirname(ARCHIVE), "-lerlensieg"]
 
 ALONE = """#include <erlensieg.h>

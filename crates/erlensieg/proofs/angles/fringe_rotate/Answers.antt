@@ -1,5 +1,4 @@
 -- `erlensieg::angles::fringe_rotate` meets its contract: the rows of the rotation, entry by entry. Assumes nothing.
-use borrow.Author.Rules.{rules}
 use mathlib.Core.Path.{◌≡◌, ap, ◌∙◌}
 use native.Mathlib.Omega.{arith}
 use Prim.Native.Nat.{ℕ, ◌^◌, ◌≤◌}
@@ -14,47 +13,7 @@ use Rattle.sine.proofs.Laws.{sine_size, cosine_size}
 use Rattle.earth.specs.Rotation.{rotation_of}
 use Rattle.erlensieg.specs.declared.angles.Rotation.{Rotation}
 use Rattle.erlensieg.specs.Nine.{entry_of, nine_of}
-use Rattle.erlensieg.proofs.angles.fringe_rotate.Statement.{statement}
-use Rattle.erlensieg.proofs.angles.fringe_rotate.Tie as tie
-
-rotate-requires : tie.Need-rotate-requires
-rotate-requires c κs = search rules
-
-array-copy-out-x : tie.Need-array-copy-out-x
-array-copy-out-x c = search rules
-
-array-copy-out-y : tie.Need-array-copy-out-y
-array-copy-out-y c = search rules
-
-array-copy-out-z : tie.Need-array-copy-out-z
-array-copy-out-z c = search rules
-
-array-copy-out-t16 : tie.Need-array-copy-out-t16
-array-copy-out-t16 c = search rules
-
-array-copy-out-t19 : tie.Need-array-copy-out-t19
-array-copy-out-t19 c = search rules
-
-array-copy-out-t22 : tie.Need-array-copy-out-t22
-array-copy-out-t22 c = search rules
-
-array-copy-out-t25 : tie.Need-array-copy-out-t25
-array-copy-out-t25 c = search rules
-
-array-copy-out-t28 : tie.Need-array-copy-out-t28
-array-copy-out-t28 c = search rules
-
-array-copy-out-t31 : tie.Need-array-copy-out-t31
-array-copy-out-t31 c = search rules
-
-array-copy-out-t34 : tie.Need-array-copy-out-t34
-array-copy-out-t34 c = search rules
-
-array-copy-out-t37 : tie.Need-array-copy-out-t37
-array-copy-out-t37 c = search rules
-
-array-copy-out-t40 : tie.Need-array-copy-out-t40
-array-copy-out-t40 c = search rules
+use Rattle.erlensieg.proofs.angles.fringe_rotate.Goals as goal
 
 -- a number as a word holds it
 abbrev stored : ℤ → ℤ
@@ -93,26 +52,5 @@ nine_words rows t e =
       zz = ap (λ m. stored (entry_of m 2 2)) e i;
     }
 
-returns : tie.Need-returns
-returns c =
-    let d = c.before.before.before.before.before.before.before.before.before.before.before.before in
-    nine_words _ d.before.args.tick d.rotate.ensures
-
-pub fringe-rotate-spec : {M : Type 1} → statement M
-fringe-rotate-spec =
-    tie.close
-    (tie.spec
-    rotate-requires
-    array-copy-out-x
-    array-copy-out-y
-    array-copy-out-z
-    array-copy-out-t16
-    array-copy-out-t19
-    array-copy-out-t22
-    array-copy-out-t25
-    array-copy-out-t28
-    array-copy-out-t31
-    array-copy-out-t34
-    array-copy-out-t37
-    array-copy-out-t40
-    returns)
+pub returns : goal.returns
+returns c = nine_words c.rotate-rows.result c.args.tick c.rotate-rows.ensures
