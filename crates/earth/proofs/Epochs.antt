@@ -1,6 +1,6 @@
 -- The later epoch: it lies as many milliseconds on as were added, its millisecond is one of a day, and nothing added changes nothing.
 -- Assumes nothing.
-use Rattle.std.proofs.Common.{◌≡◌, ◌≤◌, ℤ, pos, ◌+ℤ◌, ◌*ℤ◌, ◌≤ℤ◌, sym, ap, ◌∙◌, arith}
+use Rattle.std.proofs.Common.{◌≡◌, ℤ, pos, ◌+ℤ◌, ◌*ℤ◌, ◌≤ℤ◌, sym, ap, ◌∙◌, arith}
 use lib.IntN.{+ℤ_idr}
 use Rattle.whole.specs.Whole.{floor_z, mod_z}
 use Rattle.whole.proofs.Quote.{⟨◌⟩, #, ◌⊕◌, ◌⊗◌, by≡, by≤, of≡}

@@ -1,6 +1,6 @@
 -- Document 01, 'Numbers to meet': the starred cases of arguments and rotation angle hold, at which milliseconds n is 0, and minutes of days before 51,544.
 -- Assumes nothing.
-use Rattle.std.proofs.Common.{◌≡◌, ℕ, ◌+◌, ◌-◌, ◌<◌, ◌≤◌, ℤ, pos, negsuc, ◌-ℤ◌, neg_ℤ, sym, refl, ap, ◌∙◌, arith, le-leb}
+use Rattle.std.proofs.Common.{◌≡◌, ℕ, ◌+◌, ◌-◌, ◌≤◌, ℤ, pos, negsuc, ◌-ℤ◌, neg_ℤ, sym, refl, ap, ◌∙◌, arith, le-leb}
 use Rattle.whole.specs.Whole.{floor_z}
 use Rattle.fields.specs.Ranges.{mjd}
 use Rattle.whole.specs.Answers.{given}

@@ -1,4 +1,6 @@
 // Earth rotation by whole numbers: epochs, minutes of TT, the five arguments, the tide in UT1, the rotation angle.
+#![tactic(auto)]
+
 pub mod rows;
 pub mod ticks;
 pub mod time;
@@ -56,6 +58,7 @@ fn epoch_ok(day: i64, ms: i64, more: i64, range: Range) -> bool
 }
 
 // The epoch that is `add` milliseconds later.
+#[tactic(auto, unfolding(crate::specs::Calls::later_outcome))]
 pub fn later(day: i64, ms: i64, add: i64) -> EpochAnswer
     ensures { LaterPromise day ms add result }
 {
@@ -75,6 +78,7 @@ pub fn later(day: i64, ms: i64, add: i64) -> EpochAnswer
 }
 
 // n and the five arguments at an epoch, where TAI-UTC is `tai` seconds.
+#[tactic(auto, unfolding(crate::specs::Calls::arguments_outcome))]
 pub fn arguments(day: i64, ms: i64, tai: i64) -> TicksAnswer
     ensures { ArgumentsPromise day ms tai result }
 {
@@ -103,6 +107,7 @@ pub fn arguments(day: i64, ms: i64, tai: i64) -> TicksAnswer
 }
 
 // The tide in UT1 in nanoseconds at an epoch, where TAI-UTC is `tai` seconds.
+#[tactic(auto, unfolding(crate::specs::Calls::tide_outcome, crate::specs::TideInUT1::tide_of))]
 pub fn tide(day: i64, ms: i64, tai: i64) -> Number
     ensures { TidePromise day ms tai result }
 {
@@ -127,6 +132,7 @@ fn angle_ok(day: i64, f: i64) -> bool
 }
 
 // E and ERA of a day and of f microseconds of it.
+#[tactic(auto, unfolding(crate::specs::Calls::angle_outcome, crate::specs::Angle::era_of))]
 pub fn angle_at(day: i64, f: i64) -> AngleAnswer
     ensures { AnglePromise day f result }
 {
@@ -146,6 +152,7 @@ pub fn angle_at(day: i64, f: i64) -> AngleAnswer
 }
 
 // The rotation by a tick, as three rows of three, scaled by 2^30.
+#[tactic(auto, unfolding(crate::specs::Rotation::rotation_of))]
 pub fn rotate(tick: u32) -> [[i64; 3]; 3]
     ensures { RotatePromise tick result }
 {

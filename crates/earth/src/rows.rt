@@ -93,6 +93,7 @@ fn with_column(sum: u32, multiplier: i64, argument: u32) -> u32
 }
 
 // The five columns from left to right, as printed: 2 0 2 0 1 makes l + l + F + F + Ω.
+#[tactic(auto, unfolding(crate::specs::TideInUT1::row_angle_rule))]
 pub fn row_angle(row: [i64; 6], a: Delaunay) -> u32
     requires { Few row }
     ensures { result ≡ row_angle_rule row a }
@@ -128,6 +129,7 @@ pub fn rows_sum(rows: &[[i64; 6]], a: Delaunay) -> i64
 }
 
 // The rows of the definition.
+#[tactic(auto, unfolding(crate::specs::Rows::rows))]
 fn table() -> [[i64; 6]; 41]
     ensures { result ≡ rows }
 {
@@ -135,6 +137,7 @@ fn table() -> [[i64; 6]; 41]
 }
 
 // The tide in nanoseconds, at n minutes of TT. A sine is scaled by 2^30.
+#[tactic(auto, unfolding(crate::specs::TideInUT1::tide_at))]
 pub fn tide_at_minute(n: i64) -> i64
     requires { ∣ n ∣ < 2 ^ 26 }
     ensures { result ≡ tide_at n }

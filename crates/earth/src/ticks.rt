@@ -6,7 +6,7 @@ ghost use Rattle.earth.specs.DelaunayArguments.{argument_of, arguments_of};
 use whole::long::{argument_product, argument_ticks};
 
 // The Delaunay arguments l, l', F, D and Ω.
-#[derive(Drop)]
+#[derive(Clone, Copy)]
 pub struct Delaunay {
     pub l: u32,
     pub lp: u32,
@@ -17,6 +17,7 @@ pub struct Delaunay {
 
 // One argument at n minutes of TT, of its constant and its rate per century, which has 52,596,000 minutes. The turn is M of document 01; the
 // constant times 52,596,000 is below it.
+#[tactic(auto, unfolding(crate::specs::DelaunayArguments::argument_of))]
 fn argument(constant: u64, rate: i64, n: i64) -> u32
     requires { (constant ≤ 12_871_047_930) × (∣ rate ∣ < 2 ^ 44) × (∣ n ∣ < 2 ^ 26) }
     ensures { result ≡ argument_of (pos constant) rate n }
@@ -26,6 +27,7 @@ fn argument(constant: u64, rate: i64, n: i64) -> u32
 }
 
 // The five arguments at n minutes of TT.
+#[tactic(auto, unfolding(crate::specs::DelaunayArguments::arguments_of))]
 pub fn arguments_at(n: i64) -> Delaunay
     requires { ∣ n ∣ < 2 ^ 26 }
     ensures { result ≡ arguments_of n }

@@ -28,6 +28,7 @@ pub struct Epoch {
 
 impl Epoch {
     // The epoch that is `add` milliseconds later.
+    #[tactic(auto, unfolding(crate::specs::Epoch::later_of))]
     pub fn later(self, add: i64) -> Epoch
         requires { Holds mjd self.day × Holds millisecond self.ms × Holds added add }
         ensures { result ≡ later_of self add }
@@ -41,6 +42,7 @@ impl Epoch {
 
     // n, where TAI-UTC is `tai` seconds; TT is 32,184 ms ahead of TAI. Counted from 0h of the first day, nothing is below 0. From there to
     // J2000, noon of day 51,544, it is 10,227 days and a half, 14,727,600 minutes.
+    #[tactic(auto, unfolding(crate::specs::Minutes::minutes_of))]
     pub fn minutes(self, tai: i64) -> i64
         requires { Holds mjd self.day × Holds millisecond self.ms × Holds taiutc tai }
         ensures { result ≡ minutes_of self tai }
