@@ -14,29 +14,29 @@ use Rattle.whole.specs.Refusals.{unless, first_of}
 use Rattle.whole.proofs.Answers.{given_yes, given_no, given-each}
 use Rattle.whole.proofs.Refusals.{unless_zero, first_zero}
 use Rattle.predict.specs.declared.segment.Lent.{Lent}
-use Rattle.predict.specs.Lent.{place_ok_rule, length_ok_rule}
+use Rattle.predict.specs.Lent.{place_in_rule, length_ok_rule}
 use Rattle.predict.proofs.Numbers.{Placed, placed}
 use Rattle.judge.specs.declared.Judgement.{Judgement}
 use Rattle.judge.specs.Judgement.{samples_ok_rule, fault_of_rule, verdict, accepted, judged_from}
 
 -- what a segment has that is not at fault
 pub record Sound (s : List ℤ) (t at : ℕ) (x : Lent) : Type 0 where
-  pub place : place_ok_rule (length s) at x ≡ true
+  pub place : place_in_rule (length s) at x ≡ true
   pub long : length_ok_rule x ≡ true
   pub near : samples_ok_rule s t at x ≡ true
 
 module _ (s : List ℤ) (t at : ℕ) (x : Lent) where
   -- ---- each fault
 
-  pub fault_place : place_ok_rule (length s) at x ≡ false → fault_of_rule s t at x ≡ 1
+  pub fault_place : place_in_rule (length s) at x ≡ false → fault_of_rule s t at x ≡ 1
   unfolding fault_of_rule
   fault_place h = rw h
 
-  pub fault_length : place_ok_rule (length s) at x ≡ true → length_ok_rule x ≡ false → fault_of_rule s t at x ≡ 2
+  pub fault_length : place_in_rule (length s) at x ≡ true → length_ok_rule x ≡ false → fault_of_rule s t at x ≡ 2
   unfolding fault_of_rule
   fault_length h k = rw (h, k)
 
-  pub fault_sample : place_ok_rule (length s) at x ≡ true → length_ok_rule x ≡ true → samples_ok_rule s t at x ≡ false → fault_of_rule s t at x ≡ 3
+  pub fault_sample : place_in_rule (length s) at x ≡ true → length_ok_rule x ≡ true → samples_ok_rule s t at x ≡ false → fault_of_rule s t at x ≡ 3
   unfolding fault_of_rule
   fault_sample h k l = rw (h, k, l)
 
@@ -47,14 +47,14 @@ module _ (s : List ℤ) (t at : ℕ) (x : Lent) where
   pub fault_sound : fault_of_rule s t at x ≡ 0 → Sound s t at x
   unfolding fault_of_rule
   fault_sound e =
-      let a = first_zero (unless (place_ok_rule (length s) at x) 1) (unless (length_ok_rule x) 2 ∷ unless (samples_ok_rule s t at x) 3 ∷ []) e in
+      let a = first_zero (unless (place_in_rule (length s) at x) 1) (unless (length_ok_rule x) 2 ∷ unless (samples_ok_rule s t at x) 3 ∷ []) e in
       let b = first_zero (unless (length_ok_rule x) 2) (unless (samples_ok_rule s t at x) 3 ∷ []) a.1 in
       let c = first_zero (unless (samples_ok_rule s t at x) 3) [] b.1 in
-      record { place = unless_zero (place_ok_rule (length s) at x) 0 a.0; long = unless_zero (length_ok_rule x) 1 b.0; near = unless_zero (samples_ok_rule s t at x) 2 c.0 }
+      record { place = unless_zero (place_in_rule (length s) at x) 0 a.0; long = unless_zero (length_ok_rule x) 1 b.0; near = unless_zero (samples_ok_rule s t at x) 2 c.0 }
 
   pub fault_most : fault_of_rule s t at x ≤ 3
   unfolding fault_of_rule
-  fault_most = go (place_ok_rule (length s) at x) (length_ok_rule x) (samples_ok_rule s t at x)
+  fault_most = go (place_in_rule (length s) at x) (length_ok_rule x) (samples_ok_rule s t at x)
     where
       go : (a b c : Bool) → first_of (unless a 1 ∷ unless b 2 ∷ unless c 3 ∷ []) ≤ 3
       go false b c = omega arith

@@ -7,7 +7,7 @@ use Rattle.whole.specs.Refusals.{unless, lowest, first_of}
 use Rattle.fit.specs.Line.{apart}
 use Rattle.track.specs.Answer.{in_range}
 use Rattle.predict.specs.declared.segment.Lent.{Lent}
-use Rattle.predict.specs.Lent.{lent_of, place_ok_rule, length_ok_rule, range_ok_rule}
+use Rattle.predict.specs.Lent.{lent_of, place_in_rule, length_ok_rule, range_ok_rule}
 use Rattle.judge.specs.declared.Judgement.{Judgement}
 
 -- ---- the faults of a segment, where `at` samples stand before it
@@ -22,7 +22,7 @@ samples_ok_rule s t at x = all_below (pos_part x.count) (near_at s (65536 * t) x
 
 -- why it is at fault, in this order: 1 for its place, 2 for its length, 3 for a sample; 0 where it is not at fault
 unfoldable pub fault_of_rule : List ℤ → ℕ → ℕ → Lent → ℕ
-fault_of_rule s t at x = first_of (unless (place_ok_rule (length s) at x) 1 ∷ unless (length_ok_rule x) 2 ∷ unless (samples_ok_rule s t at x) 3 ∷ [])
+fault_of_rule s t at x = first_of (unless (place_in_rule (length s) at x) 1 ∷ unless (length_ok_rule x) 2 ∷ unless (samples_ok_rule s t at x) 3 ∷ [])
 
 -- ---- the judgement
 

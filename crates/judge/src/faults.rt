@@ -6,7 +6,7 @@ ghost use Rattle.judge.specs.Judgement.{fault_of_rule, verdict, judged_from, ran
 
 use crate::Judgement;
 use crate::near::samples_ok;
-use predict::segment::{Lent, length_ok, lent_at, place_ok};
+use predict::segment::{Lent, length_ok, lent_at, place_in};
 use whole::sign::size;
 
 // The faults of a segment.
@@ -22,7 +22,7 @@ fn fault_of(samples: &[i64], tolerance: u64, at: u64, x: Lent) -> u64
     requires at_in_bounds { (at ≤ length samples.now) × (range_ok_rule x ≡ true) }
     ensures { result ≡ fault_of_rule samples.now tolerance at x }
 {
-    if !place_ok(samples.len() as u64, at, x) {
+    if !place_in(samples.len() as u64, at, x) {
         return PLACE;
     }
     if !length_ok(x) {

@@ -1,5 +1,7 @@
 // The judgement of a track that was made elsewhere, given the samples that it is for. Document 02, L7.
 // specs/Judgement.antt says what is accepted and which fault is named; specs/Accepted.antt that only tracks of the samples are accepted.
+#![tactic(auto)]
+
 ghost use Rattle.judge.specs.Promises.{JudgePromise};
 
 use track::range::call_in_range;

@@ -3,7 +3,7 @@ ghost use Rattle.std.specs.Prelude.{◌≡◌};
 ghost use Rattle.predict.specs.Lent.{lent_of};
 ghost use Rattle.judge.specs.Judgement.{ranges_ok_rule};
 
-use predict::segment::{lent_at, range_ok};
+use predict::segment::{bounds_ok, lent_at};
 
 // Whether the offset and the rate of every whole segment are in their ranges.
 pub fn ranges_ok(track: &[i64]) -> bool
@@ -12,7 +12,7 @@ pub fn ranges_ok(track: &[i64]) -> bool
     let m = track.len() / 4;
     let mut i: usize = 0;
     while i < m {
-        if !range_ok(lent_at(track, i)) {
+        if !bounds_ok(lent_at(track, i)) {
             return false;
         }
         i += 1;
