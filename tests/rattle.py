@@ -10,7 +10,7 @@ def crates():
     """The names that crates.txt lists."""
     with open(os.path.join(ROOT, "crates.txt")) as lines:
         stripped = [line.split("#")[0].strip() for line in lines]
-    return [line.split(":")[0].strip() for line in stripped if line]
+    return [line.split(":")[0].split()[0] for line in stripped if line]
 
 
 def command(name):

@@ -4,7 +4,6 @@ It is tried on a copy, with a kit that proves nothing and writes down what it is
 """
 
 import os
-import platform
 import shutil
 import subprocess
 import tempfile
@@ -16,22 +15,28 @@ RT = """#!/bin/sh
 kit=$(dirname "$(dirname "$0")")
 case $1 in
 version) cat "$kit/version" ;;
-check)
+run)
 	echo "$*" >>"$kit/asked"
-	cat "$kit/says"
+	cat "$kit/says" >&2
 	[ ! -f "$kit/refuses" ] || exit 1
-	mkdir -p target/bin target/stamp
-	[ -s target/bin/tracks ] || [ ! -f target/stamp/tracks ] || exit 0
-	echo built >target/bin/tracks
-	echo stamp >target/stamp/tracks
+	mkdir -p out
+	printf '#!/bin/sh\n. "%s"\n' "$kit/program" >out/tracks
+	chmod +x out/tracks
 	;;
 esac
 """
-LOADER = "#!/bin/sh\necho ran\necho 0 >&3\n"
-SAYS = """rt: whole proved (unchanged since it was last proved)
-library fields: loaded
-rt: text proved (7 s)
-rt: fields proved (12 s)
+PROGRAM = "echo ran\necho 0 >&3\n"
+SAYS = """rt: chose --jobs 2 for whole
+crate whole: modules loaded=300 checked=0
+logic=proved functions=23 incremental=trusted
+rt: chose --jobs 2 for text
+library whole: modules loaded=40 checked=0
+crate text: modules loaded=0 checked=342
+logic=proved functions=30 incremental=trusted
+rt: chose --jobs 2 for fields
+library whole: modules loaded=12 checked=0
+crate fields: modules loaded=5 checked=16
+logic=proved functions=14 incremental=trusted
 """
 
 
@@ -47,14 +52,14 @@ class Copy:
 
     def __init__(self, folder):
         self.root, self.kit = os.path.join(folder, "a copy"), os.path.join(folder, "kit")
-        shutil.copytree(os.path.join(ROOT, "crates"), os.path.join(self.root, "crates"))
+        shutil.copytree(os.path.join(ROOT, "crates"), os.path.join(self.root, "crates"), ignore=shutil.ignore_patterns("out"))
         for name in ("tracks", "libexec/program", "crates.txt", "include/erlensieg.h", "examples/session"):
             os.makedirs(os.path.dirname(os.path.join(self.root, name)), exist_ok=True)
             shutil.copy(os.path.join(ROOT, name), os.path.join(self.root, name))
         put(RT, self.kit, "bin", "rt")
         put(KIT, self.kit, "version")
         put(SAYS, self.kit, "says")
-        put(LOADER, self.kit, "on", platform.machine(), "toolchain", "lib", "ld-linux-x86-64.so.2")
+        put(PROGRAM, self.kit, "program")
 
     def run(self):
         """Status, standard output, standard error, and how often the kit was asked to prove."""
@@ -82,7 +87,7 @@ class Copy:
         path = os.path.join(self.root, "crates.txt")
         with open(path, encoding="utf-8") as file:
             lines = file.read().splitlines()
-        put("".join(line + (" whole" if line.startswith(crate + ":") else "") + "\n" for line in lines), path)
+        put("".join(line + (" whole" if line.split(":")[0] == crate else "") + "\n" for line in lines), path)
 
     def remove(self, *path):
         os.remove(os.path.join(self.root, *path))
@@ -105,8 +110,8 @@ CHANGES = (
     ("its own line in crates.txt", lambda copy: copy.change_line("tracks"), True),
     ("the line of a crate that it stands on", lambda copy: copy.change_line("lines"), True),
     ("another kit", lambda copy: put("identity of another kit\n", copy.kit, "version"), True),
-    ("another program in its place", lambda copy: copy.add("target", "bin", "tracks"), True),
-    ("the program taken away", lambda copy: copy.remove("target", "bin", "tracks"), True),
+    ("another program in its place", lambda copy: copy.add("crates", "tracks", "out", "tracks"), True),
+    ("the program taken away", lambda copy: copy.remove("crates", "tracks", "out", "tracks"), True),
 )
 
 BUILDING = "tracks: proving and building the program, the first time some minutes\n"
@@ -121,7 +126,8 @@ def first(tally, copy):
 def stands_on():
     """How many crates the program stands on, itself included."""
     with open(os.path.join(ROOT, "crates.txt"), encoding="utf-8") as file:
-        below = dict(line.split("#")[0].strip().split(":") for line in file if ":" in line.split("#")[0])
+        lines = [line.split("#")[0].split(":") for line in file if ":" in line.split("#")[0]]
+    below = {line[0].split()[0]: line[1] for line in lines}
     found, todo = set(), ["tracks"]
     while todo:
         crate = todo.pop()
@@ -153,9 +159,8 @@ def fails(tally, copy):
 def ended(tally, copy):
     """Programs that tell no status, or one that is none, and one that is killed."""
     said = "tracks: the program ended before it told its status\n"
-    loader = (copy.kit, "on", platform.machine(), "toolchain", "lib", "ld-linux-x86-64.so.2")
     for name, lines in (("no status", ""), ("another status", "echo 7 >&3\n"), ("killed", "kill -9 $$\n")):
-        put("#!/bin/sh\necho ran\n" + lines, *loader)
+        put("echo ran\n" + lines, copy.kit, "program")
         tally.equal("./tracks, a program that ends: %s" % name, copy.run(), (3, "ran\n", said, 0))
 
 

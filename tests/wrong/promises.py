@@ -14,7 +14,7 @@ from rattle import ROOT
 ARCHIVE = "erlensieg"
 CRATES = ["bulletin", "sine", "earth", "session", "writer", "delay", "track", "predict", "fringe", "program"]
 CALL = re.compile(
-    r'^pub (?:extern "C" )?fn (\w+)\([^{]*?\)(?: -> [^{]*?)?\n((?:    (?:ensures|requires) .*\n(?:        .*\n)*)*)\{',
+    r'^pub (?:extern "C" )?fn (\w+)(?:<[^(]*>)?\([^{]*?\)(?: -> [^{]*?)?\n((?:    (?:ensures|requires) .*\n(?:        .*\n)*)*)\{',
     re.MULTILINE,
 )
 
@@ -31,14 +31,14 @@ def calls(text):
 
 def cited(contract):
     """The one promise that is the whole of a contract, or None."""
-    found = re.fullmatch(r"\s*ensures \{ λ \w+\. ⌜ (\w+Promise) [^×→]*⌝ \}\s*", contract)
+    found = re.fullmatch(r"\s*ensures(?: \w+)? \{ (\w+Promise) [^×→{}]*\}\s*", contract)
     return found and found.group(1)
 
 
 def theorems(crate):
     """The statements of the laws in proofs/."""
     for path in glob.glob(os.path.join(ROOT, "crates", crate, "proofs", "*.antt")):
-        yield from re.findall(r"^\s*pub [\w-]+ : .*(?:\n\s+→.*)*", read(path), re.MULTILINE)
+        yield from re.findall(r"^\s*pub [\w'-]+ : .*(?:\n\s+→.*)*", read(path), re.MULTILINE)
 
 
 def promises_of(crate):

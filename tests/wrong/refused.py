@@ -1,23 +1,32 @@
 """Every wrong program of the must-fail edits is refused by itself, at the place that its edit names.
 
 An edit makes several functions wrong at once, one program of each, and its head has a line for each of them:
-`# NAME (FUNCTION, PLACE): what it does`. `rt` calls an edit refused where one function is; the log of its check has the
-errors of all. PLACE is where the first error of the function's own proof stands; an error that only says that another
-was not admitted is none of its own. A law stands for a function by its file. The logs are those of `rt ci`; where one
-is missing or older than its crate, `rt must-fail` makes them all anew.
+`# NAME (FUNCTION, PLACE): what it does`. `rt` calls an edit refused where one function is, and keeps no log. So each
+edit is tried here once more, by `.ci/over` on a copy of its crate, over the libraries that `rt ci` left; the log of that
+check, in the crate's folder out/, has the errors of all. PLACE is where the first error of the function's own proof
+stands, or else the first goal that `search` did not prove; an error that only says that another was not admitted is none
+of its own, and one that misses a name refuses nothing. A law stands for a function by its file.
 """
 
 import glob
 import os
 import re
+import shutil
 import subprocess
+import tempfile
+from concurrent.futures import ThreadPoolExecutor
+from functools import cache
+from importlib.machinery import SourceFileLoader
+from importlib.util import module_from_spec, spec_from_loader
 from typing import NamedTuple
 
 from rattle import ROOT
 
-HEAD = re.compile(r"# (\w+) \(([\w:./-]+), ([\w-]+)\): (.+)")
-ERROR = re.compile(r"\S*?/((?:proofs|specs|src)/\S+?\.(?:antt|rt)):\d+:\d+: error: `([\w-]+)`: (.*)")
-SEARCH = re.compile(r"`search` does not close `([\w-]+)`")
+HEAD = re.compile(r"# (\w+) \(([\w:./+-]+), ([\w'-]+)\): (.+)")
+ERROR = re.compile(r"^(?:\./)?((?:proofs|specs|src)/\S+?\.(?:antt|rt)):\d+:\d+: error: `([^`]+)`: (.*)", re.MULTILINE)
+SEARCH = re.compile(r"`search` did not prove `([^`]+)`")
+MISSING = re.compile(r"has no field|is not in scope|has no `|is no name|operand is missing|cannot continue")
+PARTS = ("src", "specs", "proofs")
 
 
 class Wrong(NamedTuple):
@@ -51,22 +60,81 @@ def wrong_programs():
 
 
 def log_path(crate, edit):
-    return os.path.join(ROOT, "target", "must-fail", crate, edit, ".log")
+    return os.path.join(ROOT, "crates", crate, "out", "must-fail", edit + ".log")
+
+
+@cache
+def over():
+    """.ci/over as a module."""
+    loader = SourceFileLoader("over", os.path.join(ROOT, ".ci", "over"))
+    made = module_from_spec(spec_from_loader(loader.name, loader))
+    loader.exec_module(made)
+    return made
 
 
 def fresh(crate, edit):
-    """Whether there is a log that is as new as the crate."""
+    """Whether there is a log that is as new as the crate, the edit and the libraries under the crate."""
     if not os.path.exists(log_path(crate, edit)):
         return False
-    folders = os.walk(os.path.join(ROOT, "crates", crate))
-    files = [os.path.join(folder, name) for folder, _, names in folders for name in names]
-    return os.path.getmtime(log_path(crate, edit)) >= max(map(os.path.getmtime, files))
+    libraries = map(over().rlib, over().below(crate, over().listed()))
+    edited = os.path.join(ROOT, "crates", crate, "must-fail", edit + ".edit")
+    changed = max(over().newest(crate), *(os.path.getmtime(path) for path in (edited, *libraries) if os.path.exists(path)))
+    return os.path.getmtime(log_path(crate, edit)) >= changed
+
+
+def apply(crate, edit, folder):
+    """Applies an edit to a copy of the crate, as rt does; what is wrong about it, or nothing."""
+    path, old = None, None
+    for line in text("crates", crate, "must-fail", edit + ".edit").split("\n"):
+        if line.startswith("file: "):
+            path = os.path.join(folder, line.removeprefix("file: ").strip())
+        elif line.startswith("old: "):
+            old = line.removeprefix("old: ")
+        elif line.startswith("new:") and path and old:
+            with open(path, encoding="utf-8") as file:
+                had = file.read()
+            if had.count(old) != 1:
+                return "%r stands %d times in %s" % (old, had.count(old), os.path.basename(path))
+            with open(path, "w", encoding="utf-8") as file:
+                file.write(had.replace(old, line.removeprefix("new:").removeprefix(" ")))
+    return ""
+
+
+def make_log(crate, edit, programs):
+    """Checks the functions that an edit makes wrong, or the whole crate where a law is among them."""
+    wrong = [program.function for program in programs if (program.crate, program.edit) == (crate, edit)]
+    laws = any(function.endswith(".antt") for function in wrong)
+    only = [] if laws else [word for function in wrong for word in ("--only", crate + "::" + function)]
+    with tempfile.TemporaryDirectory() as folder:
+        for part in PARTS:
+            if os.path.isdir(os.path.join(ROOT, "crates", crate, part)):
+                shutil.copytree(os.path.join(ROOT, "crates", crate, part), os.path.join(folder, part))
+        said = apply(crate, edit, folder)
+        if not said:
+            command = [os.path.join(ROOT, ".ci", "over"), crate, folder, "check", "--jobs", "1", *only]
+            streams = {"stdin": subprocess.DEVNULL, "stdout": subprocess.PIPE, "stderr": subprocess.STDOUT}
+            said = subprocess.run(command, text=True, errors="replace", **streams).stdout
+    os.makedirs(os.path.dirname(log_path(crate, edit)), exist_ok=True)
+    with open(log_path(crate, edit), "w", encoding="utf-8") as file:
+        file.write(said)
+
+
+def make_logs(tally, programs):
+    """The logs that are not there, or are older than what they are of: some at a time."""
+    lacking = [(crate, edit) for crate, edit in edits() if not fresh(crate, edit)]
+    crates = over().listed()
+    for crate in sorted({crate for crate, _ in lacking} & set(crates)):
+        over().ready(crate, crates)
+    with ThreadPoolExecutor(os.cpu_count()) as pool:
+        list(pool.map(lambda it: make_log(*it, programs), lacking))
+    tally.say("wrong programs: %d edits were tried, the logs of %d were there" % (len(lacking), len(edits()) - len(lacking)))
 
 
 def proofs_of(function):
     """Where a function's proof may stand: that of one which calls itself has a + before its name."""
     *modules, name = function.split("::")
-    return ["/".join(["proofs", *modules, mark + name, "Proof.antt"]) for mark in ("", "+")]
+    files = ("Invariants.antt", "Answers.antt", "Proof.antt")
+    return ["/".join(["proofs", *modules, mark + name, file]) for mark in ("", "+") for file in files]
 
 
 def first_error(log, wrong):
@@ -78,7 +146,7 @@ def first_error(log, wrong):
     own = [wrong.function] if law else proofs_of(wrong.function)
     for path, place, words in ERROR.findall(log):
         if path in own and "was not admitted" not in words:
-            return place
+            return place if not MISSING.search(words) else "%s, where a name is missing: %s" % (place, words)
     closed = None if law else SEARCH.search(verdict.group(1))
     return closed and closed.group(1)
 
@@ -122,9 +190,7 @@ def run(tally):
     programs = wrong_programs()
     check_heads(tally, programs)
     check_page(tally, programs)
-    if not all(fresh(crate, edit) for crate, edit in edits()):
-        tally.say("wrong programs: a log is missing or older than its crate; `rt must-fail` makes them anew")
-        subprocess.run(["rt", "must-fail"], cwd=ROOT, stdout=subprocess.DEVNULL, stderr=subprocess.DEVNULL)
+    make_logs(tally, programs)
     for wrong in programs:
         path = log_path(wrong.crate, wrong.edit)
         log = text(path) if os.path.exists(path) else ""
