@@ -20,7 +20,7 @@ pub(crate) const FIRST_DAY: i64 = MJD.low;
 const DAY: i64 = 86_400_000;
 
 // An MJD day, and a UTC millisecond of it.
-#[derive(Drop)]
+#[derive(Clone, Copy)]
 pub struct Epoch {
     pub day: i64,
     pub ms: i64,

@@ -6,7 +6,7 @@ pub mod ranges;
 ghost use Rattle.std.specs.Prelude.{◌≡◌};
 ghost use Rattle.fields.specs.Records.{station_from_rule, source_from_rule, day_from_rule, pass_from_rule};
 
-#[derive(Drop)]
+#[derive(Clone, Copy)]
 pub struct Station {
     pub id: i64,
     pub x: i64,
@@ -14,14 +14,14 @@ pub struct Station {
     pub z: i64,
 }
 
-#[derive(Drop)]
+#[derive(Clone, Copy)]
 pub struct Source {
     pub id: i64,
     pub right_ascension: i64,
     pub declination: i64,
 }
 
-#[derive(Drop)]
+#[derive(Clone, Copy)]
 pub struct Day {
     pub mjd: i64,
     pub x: i64,
@@ -31,7 +31,7 @@ pub struct Day {
     pub mark: i64,
 }
 
-#[derive(Drop)]
+#[derive(Clone, Copy)]
 pub struct Pass {
     pub station1: i64,
     pub station2: i64,
