@@ -72,6 +72,8 @@ overflow_add-x c =
     let fr : SFits w64 r.rate = record { sfits = omega arith } in
     subst (λ (z : ℤ). SFits w64 z) (sym (sum r.offset r.rate fA fr j most g.offset (g.reached j inside))) (sum_fits r.offset r.rate fA fr j most g.offset (g.reached j inside))
 
+-- Nothing wraps,
+-- so that what is rounded is the line itself.
 pub round_div-requires : goal.round_div-requires
 round_div-requires c =
     let s = c.args.track.now in

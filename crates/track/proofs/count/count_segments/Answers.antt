@@ -47,35 +47,35 @@ longest_run-run-requires-clause-full c = (c.loop-f.invariant.full_a, c.loop-f.in
 
 pub overflow_cast-counts : goal.overflow_cast-counts
 overflow_cast-counts c = let i = c.loop-f.invariant in
-    omega (arith, more c.args.samples.now c.args.tolerance _ _ _ _ _ c.requires.small c.requires.tolerance_bound i.all c.loop-f-test.true i.fewer i.left c.most_from.ensures c.longest_run-run.ensures.count_value.0)
+    omega (arith, more c.args.samples.now c.args.tolerance _ _ _ _ _ c.requires.small c.requires.tolerance_bound i.all (omega arith) i.fewer i.left (omega arith) c.longest_run-run.ensures.count_value.0)
 
 pub offset_bounds-counts-m : goal.offset_bounds-counts-m
 offset_bounds-counts-m c = let i = c.loop-f.invariant in
-    omega (arith, more c.args.samples.now c.args.tolerance _ _ _ _ _ c.requires.small c.requires.tolerance_bound i.all c.loop-f-test.true i.fewer i.left c.most_from.ensures c.longest_run-run.ensures.count_value.0)
+    omega (arith, more c.args.samples.now c.args.tolerance _ _ _ _ _ c.requires.small c.requires.tolerance_bound i.all (omega arith) i.fewer i.left (omega arith) c.longest_run-run.ensures.count_value.0)
 
 pub bounds-counts-m : goal.bounds-counts-m
 bounds-counts-m c = let i = c.loop-f.invariant in
-    omega (arith, more c.args.samples.now c.args.tolerance _ _ _ _ _ c.requires.small c.requires.tolerance_bound i.all c.loop-f-test.true i.fewer i.left c.most_from.ensures c.longest_run-run.ensures.count_value.0)
+    omega (arith, more c.args.samples.now c.args.tolerance _ _ _ _ _ c.requires.small c.requires.tolerance_bound i.all (omega arith) i.fewer i.left (omega arith) c.longest_run-run.ensures.count_value.0)
 
 pub offset_bounds-rates-m : goal.offset_bounds-rates-m
 offset_bounds-rates-m c = let i = c.loop-f.invariant in
-    omega (arith, more c.args.samples.now c.args.tolerance _ _ _ _ _ c.requires.small c.requires.tolerance_bound i.all c.loop-f-test.true i.fewer i.left c.most_from.ensures c.longest_run-run.ensures.count_value.0)
+    omega (arith, more c.args.samples.now c.args.tolerance _ _ _ _ _ c.requires.small c.requires.tolerance_bound i.all (omega arith) i.fewer i.left (omega arith) c.longest_run-run.ensures.count_value.0)
 
 pub bounds-rates-m : goal.bounds-rates-m
 bounds-rates-m c = let i = c.loop-f.invariant in
-    omega (arith, more c.args.samples.now c.args.tolerance _ _ _ _ _ c.requires.small c.requires.tolerance_bound i.all c.loop-f-test.true i.fewer i.left c.most_from.ensures c.longest_run-run.ensures.count_value.0)
+    omega (arith, more c.args.samples.now c.args.tolerance _ _ _ _ _ c.requires.small c.requires.tolerance_bound i.all (omega arith) i.fewer i.left (omega arith) c.longest_run-run.ensures.count_value.0)
 
 pub overflow_add-f : goal.overflow_add-f
 overflow_add-f c = let i = c.loop-f.invariant in
-    omega (arith, more c.args.samples.now c.args.tolerance _ _ _ _ _ c.requires.small c.requires.tolerance_bound i.all c.loop-f-test.true i.fewer i.left c.most_from.ensures c.longest_run-run.ensures.count_value.0)
+    omega (arith, more c.args.samples.now c.args.tolerance _ _ _ _ _ c.requires.small c.requires.tolerance_bound i.all (omega arith) i.fewer i.left (omega arith) c.longest_run-run.ensures.count_value.0)
 
 pub overflow_add-m : goal.overflow_add-m
 overflow_add-m c = let i = c.loop-f.invariant in
-    omega (arith, more c.args.samples.now c.args.tolerance _ _ _ _ _ c.requires.small c.requires.tolerance_bound i.all c.loop-f-test.true i.fewer i.left c.most_from.ensures c.longest_run-run.ensures.count_value.0)
+    omega (arith, more c.args.samples.now c.args.tolerance _ _ _ _ _ c.requires.small c.requires.tolerance_bound i.all (omega arith) i.fewer i.left (omega arith) c.longest_run-run.ensures.count_value.0)
 
 pub loop-f-smaller : goal.loop-f-smaller
 loop-f-smaller c = let i = c.loop-f.invariant in
-    omega (arith, more c.args.samples.now c.args.tolerance _ _ _ _ _ c.requires.small c.requires.tolerance_bound i.all c.loop-f-test.true i.fewer i.left c.most_from.ensures c.longest_run-run.ensures.count_value.0)
+    omega (arith, more c.args.samples.now c.args.tolerance _ _ _ _ _ c.requires.small c.requires.tolerance_bound i.all (omega arith) i.fewer i.left (omega arith) c.longest_run-run.ensures.count_value.0)
 
 pub loop-f-preserved : goal.loop-f-preserved
 loop-f-preserved c =
@@ -83,7 +83,7 @@ loop-f-preserved c =
     let t = c.args.tolerance in
     let r = c.longest_run-run.result in
     let i = c.loop-f.invariant in
-    let k = more c.args.samples.now c.args.tolerance _ _ _ _ _ c.requires.small c.requires.tolerance_bound i.all c.loop-f-test.true i.fewer i.left c.most_from.ensures c.longest_run-run.ensures.count_value.0 in record {
+    let k = more c.args.samples.now c.args.tolerance _ _ _ _ _ c.requires.small c.requires.tolerance_bound i.all (omega arith) i.fewer i.left (omega arith) c.longest_run-run.ensures.count_value.0 in record {
       all = i.all;
       first = omega (arith, k);
       fewer = omega (arith, k);

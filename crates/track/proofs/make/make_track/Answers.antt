@@ -19,6 +19,8 @@ pub count_segments-m-requires-clause-tolerance_bound : goal.count_segments-m-req
 count_segments-m-requires-clause-tolerance_bound c =
     (handed_on _ _ (back c.ranges.tolerance) (ranged c.args.samples.now c.args.tolerance c.requires)).most
 
+-- The room is too short: 8,
+-- and it stays as it was.
 pub returns-then-room-m : goal.returns-then-room-m
 returns-then-room-m c =
     let s = c.args.samples.now in

@@ -51,27 +51,27 @@ loop-f-init c = record {
 
 pub bounds-counts-m : goal.bounds-counts-m
 bounds-counts-m c = let i = c.loop-f.invariant in
-    (run c.args.samples.now c.args.tolerance c.args.counts.now c.args.rates.now _ c.loop-f.f c.loop-f.m c.requires.small c.requires.tolerance_bound c.requires.stored i.all c.loop-f-test.true i.fewer i.left i.start).8
+    (run c.args.samples.now c.args.tolerance c.args.counts.now c.args.rates.now _ c.loop-f.f c.loop-f.m c.requires.small c.requires.tolerance_bound c.requires.stored i.all (omega arith) i.fewer i.left i.start).8
 
 pub bounds-rates-m : goal.bounds-rates-m
 bounds-rates-m c = let i = c.loop-f.invariant in
-    (run c.args.samples.now c.args.tolerance c.args.counts.now c.args.rates.now _ c.loop-f.f c.loop-f.m c.requires.small c.requires.tolerance_bound c.requires.stored i.all c.loop-f-test.true i.fewer i.left i.start).8
+    (run c.args.samples.now c.args.tolerance c.args.counts.now c.args.rates.now _ c.loop-f.f c.loop-f.m c.requires.small c.requires.tolerance_bound c.requires.stored i.all (omega arith) i.fewer i.left i.start).8
 
 pub line_of-line-requires-clause-le_count : goal.line_of-line-requires-clause-le_count
 line_of-line-requires-clause-le_count c = let i = c.loop-f.invariant in
-    let r = run c.args.samples.now c.args.tolerance c.args.counts.now c.args.rates.now _ c.loop-f.f c.loop-f.m c.requires.small c.requires.tolerance_bound c.requires.stored i.all c.loop-f-test.true i.fewer i.left i.start in (r.1, r.2, r.3)
+    let r = run c.args.samples.now c.args.tolerance c.args.counts.now c.args.rates.now _ c.loop-f.f c.loop-f.m c.requires.small c.requires.tolerance_bound c.requires.stored i.all (omega arith) i.fewer i.left i.start in (r.1, r.2, r.3)
 
 pub line_of-line-requires-clause-t : goal.line_of-line-requires-clause-t
 line_of-line-requires-clause-t c = let i = c.loop-f.invariant in
-    let r = run c.args.samples.now c.args.tolerance c.args.counts.now c.args.rates.now _ c.loop-f.f c.loop-f.m c.requires.small c.requires.tolerance_bound c.requires.stored i.all c.loop-f-test.true i.fewer i.left i.start in (r.4, r.6)
+    let r = run c.args.samples.now c.args.tolerance c.args.counts.now c.args.rates.now _ c.loop-f.f c.loop-f.m c.requires.small c.requires.tolerance_bound c.requires.stored i.all (omega arith) i.fewer i.left i.start in (r.4, r.6)
 
 pub put-requires : goal.put-requires
 put-requires c = let i = c.loop-f.invariant in
-    omega (arith, run c.args.samples.now c.args.tolerance c.args.counts.now c.args.rates.now _ c.loop-f.f c.loop-f.m c.requires.small c.requires.tolerance_bound c.requires.stored i.all c.loop-f-test.true i.fewer i.left i.start)
+    omega (arith, run c.args.samples.now c.args.tolerance c.args.counts.now c.args.rates.now _ c.loop-f.f c.loop-f.m c.requires.small c.requires.tolerance_bound c.requires.stored i.all (omega arith) i.fewer i.left i.start)
 
 pub loop-f-smaller : goal.loop-f-smaller
 loop-f-smaller c = let i = c.loop-f.invariant in
-    omega (arith, run c.args.samples.now c.args.tolerance c.args.counts.now c.args.rates.now _ c.loop-f.f c.loop-f.m c.requires.small c.requires.tolerance_bound c.requires.stored i.all c.loop-f-test.true i.fewer i.left i.start)
+    omega (arith, run c.args.samples.now c.args.tolerance c.args.counts.now c.args.rates.now _ c.loop-f.f c.loop-f.m c.requires.small c.requires.tolerance_bound c.requires.stored i.all (omega arith) i.fewer i.left i.start)
 
 pub loop-f-preserved : goal.loop-f-preserved
 unfolding flat seg_of
@@ -85,7 +85,7 @@ loop-f-preserved c =
     let small = c.requires.small in
     let tol = c.requires.tolerance_bound in
     let line = c.line_of-line.ensures in
-    let r = run c.args.samples.now c.args.tolerance c.args.counts.now c.args.rates.now _ c.loop-f.f c.loop-f.m c.requires.small c.requires.tolerance_bound c.requires.stored i.all c.loop-f-test.true i.fewer i.left i.start in
+    let r = run c.args.samples.now c.args.tolerance c.args.counts.now c.args.rates.now _ c.loop-f.f c.loop-f.m c.requires.small c.requires.tolerance_bound c.requires.stored i.all (omega arith) i.fewer i.left i.start in
     let w = put_again (flat (track_of s t)) c.args.room.now c.loop-f.room c.put.new.room (flat (rest_of s t (length s - (m + 1)) (f + k))) m
     (pos f) (pos k) (offset_of s t f k) (rate_of_rule s t f k) _ _ _ _
     (i.ahead ∙ ap flat r.5) (omega (arith, r)) i.so_far c.put.ensures
