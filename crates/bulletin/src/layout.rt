@@ -8,7 +8,7 @@ use crate::form::{is_decimal, put_printed, units_of};
 use text::bytes::copy;
 
 // From the first column to the last, counted from 1, with so many decimals.
-#[derive(Drop)]
+#[derive(Clone, Copy)]
 pub struct Columns {
     pub first: usize,
     pub last: usize,
