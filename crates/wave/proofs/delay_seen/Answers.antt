@@ -1,6 +1,4 @@
 -- `wave::delay_seen` meets its contract.
-
--- what the supplied wrapping difference gives is the difference modulo 2^32
 use Rattle.std.proofs.Common.{◌≡◌, ℕ, ◌+◌, ◌/◌, ◌%◌, ◌^◌, ◌<◌, pos, ◌-ℤ◌, neg_ℤ, sym, ◌∙◌, arith}
 use Rattle.whole.proofs.Linear.{ret}
 use Rattle.whole.proofs.Machine.{is}
@@ -11,6 +9,7 @@ use Rattle.wave.specs.Keeping.{delay_seen_rule}
 use Rattle.wave.specs.PlaneWave.{hour_angle}
 use Rattle.wave.proofs.delay_seen.Goals as goal
 
+-- what the supplied wrapping difference gives is the difference modulo 2^32
 wrapped : (r a b : ℕ) → r < 2 ^ 32 → (r + b) % 2 ^ 32 ≡ a → r ≡ hour_angle a b
 unfolding hour_angle
 wrapped r a b h e =

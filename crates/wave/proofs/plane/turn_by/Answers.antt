@@ -9,7 +9,6 @@ use Rattle.wave.proofs.Sizes.{turn_size}
 use Rattle.wave.proofs.plane.turn_by.Goals as goal
 
 -- a turn by its two numbers
-
 by_both : {c s : ℤ} (t : ℕ) → c ≡ cosine_of t → s ≡ sine_of t → (◌≡◌ {A = Turn} (record { cos = c; sin = s }) (turn_of t)) × Turned (record { cos = c; sin = s })
 unfolding turn_of
 by_both t p q =
@@ -18,7 +17,6 @@ by_both t p q =
 
 pub returns : goal.returns
 returns c =
-    let k = c.before in
-    let cos = ret k.cosine.result k.cosine.type_inv ∙ k.cosine.ensures in
+    let cos = ret c.cosine.result c.cosine.type_inv ∙ c.cosine.ensures in
     let sin = ret c.sine.result c.sine.type_inv ∙ c.sine.ensures in
-    by_both k.args.t cos sin
+    by_both c.args.t cos sin

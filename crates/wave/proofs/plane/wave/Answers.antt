@@ -13,6 +13,7 @@ use Rattle.wave.specs.PlaneWave.{turn_of, equatorial, along_source, wave_of}
 use Rattle.wave.proofs.Sizes.{equatorial_size, along_size}
 use Rattle.wave.proofs.plane.wave.Goals as goal
 
+-- what a baseline holds
 module _ (b : Baseline) (k : Shifted b) where
   abbrev bx : M
   bx = var b.x 12800062057 k.x_size
@@ -23,6 +24,7 @@ module _ (b : Baseline) (k : Shifted b) where
   abbrev bz : M
   bz = var b.z 12800124114 k.z_size
 
+-- what a turn holds
 module _ (t : Turn) (k : Turned t) where
   abbrev cos : M
   cos = var t.cos (2 ^ 30) k.cos_size
@@ -34,10 +36,10 @@ module _ (t : Turn) (k : Turned t) where
 p-is : (b : Baseline) (h : ℕ) (t : Turn) (p : ℤ) → t ≡ turn_of h → p ≡ R (b.x *ℤ t.cos +ℤ (pos 0 -ℤ b.y) *ℤ t.sin) (2 ^ 30) → p ≡ equatorial b h
 unfolding equatorial turn_of
 p-is b h t p et e =
-    e
-    ∙ ap (λ (t : Turn). R (b.x *ℤ t.cos +ℤ (pos 0 -ℤ b.y) *ℤ t.sin) (2 ^ 30)) et
-    ∙ ap (λ (z : ℤ). R z (2 ^ 30)) (by≡ (⟨ b.x ⟩ ⊗ ⟨ cosine_of h ⟩ ⊕ (# 0 ⊝ ⟨ b.y ⟩) ⊗ ⟨ sine_of h ⟩) (⟨ b.x ⟩ ⊗ ⟨ cosine_of h ⟩ ⊝ ⟨ b.y ⟩ ⊗ ⟨ sine_of h ⟩) (omega arith))
+    let f = e ∙ ap (λ (t : Turn). R (b.x *ℤ t.cos +ℤ (pos 0 -ℤ b.y) *ℤ t.sin) (2 ^ 30)) et in
+    f ∙ ap (λ (z : ℤ). R z (2 ^ 30)) (by≡ (⟨ b.x ⟩ ⊗ ⟨ cosine_of h ⟩ ⊕ (# 0 ⊝ ⟨ b.y ⟩) ⊗ ⟨ sine_of h ⟩) (⟨ b.x ⟩ ⊗ ⟨ cosine_of h ⟩ ⊝ ⟨ b.y ⟩ ⊗ ⟨ sine_of h ⟩) (omega arith))
 
+-- P with its bound
 abbrev big_p : (b : Baseline) (h : ℕ) (p : ℤ) → Shifted b → p ≡ equatorial b h → M
 big_p b h p k e = var p 25600124114 (rw e (equatorial_size b h k))
 
@@ -46,9 +48,11 @@ g-is : (b : Baseline) (h : ℕ) (d : Turn) (p g : ℤ) → p ≡ equatorial b h 
 unfolding along_source
 g-is b h d p g e f = f ∙ simp e
 
+-- -G with the bound of G
 abbrev big_g : (b : Baseline) (h : ℕ) (d : Turn) (g : ℤ) → Shifted b → Turned d → g ≡ along_source b h d → M
 big_g b h d g k l e = lit (pos 0) ⊟ var g 38400248228 (rw e (along_size b h d k l))
 
+-- the goals up to P
 pub overflow_sub-b : goal.overflow_sub-b
 overflow_sub-b c = ok (lit (pos 0) ⊟ by c.args.b c.requires.0) tt
 
@@ -60,6 +64,7 @@ turned-p-requires c =
     let v = sin c.turn_by-t.result c.turn_by-t.ensures.1 in
     simp (is x tt, is y tt, is u tt, is v tt) (le_trans (bounded x) (lit≤ tt), le_trans (bounded y) (lit≤ tt), bounded u, bounded v)
 
+-- G is taken from P
 pub turned-g-requires : goal.turned-g-requires
 turned-g-requires c =
     let b = c.args.b in
@@ -67,23 +72,30 @@ turned-g-requires c =
     let t = c.turn_by-t in
     let e = simp (is (bx b c.requires.0) tt, is (lit (pos 0) ⊟ by b c.requires.0) tt, is (cos t.result t.ensures.1) tt, is (sin t.result t.ensures.1) tt) at c.turned-p.ensures in
     let p = big_p b c.args.h c.turned-p.result c.requires.0 (p-is b c.args.h t.result c.turned-p.result t.ensures.0 e) in
-    simp (is p tt, is (bz b c.requires.0) tt, is (cos d c.requires.1) tt, is (sin d c.requires.1) tt)
-    (le_trans (bounded p) (lit≤ tt), le_trans (bounded (bz b c.requires.0)) (lit≤ tt), bounded (cos d c.requires.1), bounded (sin d c.requires.1))
+    let z = bz b c.requires.0 in
+    let u = cos d c.requires.1 in
+    let v = sin d c.requires.1 in
+    simp (is p tt, is z tt, is u tt, is v tt) (le_trans (bounded p) (lit≤ tt), le_trans (bounded z) (lit≤ tt), bounded u, bounded v)
 
+-- what the two calls gave is the G of the baseline
 along-is : (c : goal.After-turned-g) → c.turned-g.result ≡ along_source c.args.b c.args.h c.args.d
 along-is c =
-    let b = c.args.b in
-    let d = c.args.d in
-    let t = c.turn_by-t in
-    let e = simp (is (bx b c.requires.0) tt, is (lit (pos 0) ⊟ by b c.requires.0) tt, is (cos t.result t.ensures.1) tt, is (sin t.result t.ensures.1) tt) at c.turned-p.ensures in
-    let ep = p-is b c.args.h t.result c.turned-p.result t.ensures.0 e in
-    let p = big_p b c.args.h c.turned-p.result c.requires.0 ep in
-    g-is b c.args.h d c.turned-p.result c.turned-g.result ep
-    (simp (is p tt, is (bz b c.requires.0) tt, is (cos d c.requires.1) tt, is (sin d c.requires.1) tt) at c.turned-g.ensures)
+    let k = c.requires.0 in
+    let l = c.requires.1 in
+    let s = c.turn_by-t in
+    let f = simp (is (bx c.args.b k) tt, is (lit (pos 0) ⊟ by c.args.b k) tt, is (cos s.result s.ensures.1) tt, is (sin s.result s.ensures.1) tt) at c.turned-p.ensures in
+    let ep = p-is c.args.b c.args.h s.result c.turned-p.result s.ensures.0 f in
+    let m = big_p c.args.b c.args.h c.turned-p.result k ep in
+    let z = bz c.args.b k in
+    let u = cos c.args.d l in
+    let v = sin c.args.d l in
+    let eg = simp (is m tt, is z tt, is u tt, is v tt) at c.turned-g.ensures in
+    g-is c.args.b c.args.h c.args.d c.turned-p.result c.turned-g.result ep eg
 
 abbrev g : goal.After-turned-g → M
 g c = big_g c.args.b c.args.h c.args.d c.turned-g.result c.requires.0 c.requires.1 (along-is c)
 
+-- the goals behind G
 pub overflow_sub-g : goal.overflow_sub-g
 overflow_sub-g c = ok (g c) tt
 

@@ -46,10 +46,10 @@ line_at-requires c =
 
 line-there : (c : goal.After-line_at) → c.line_at.result ≡ ut1_line c.args.r0 c.args.r1 c.args.ms
 line-there c =
-    let a = v0 c.args.r0 c.requires.0 in
-    let b = v1 c.args.r0 c.args.r1 c.leap.result c.requires.0 c.requires.1 c.leap.ensures in
-    line-is c.args.r0 c.args.r1 c.leap.result c.args.ms c.line_at.result c.requires.0 c.requires.1 c.leap.ensures
-    (simp (is a tt, is b tt, back c.ranges.ms) at c.line_at.ensures)
+    let k = c.leap.ensures in
+    let e1 = is (v1 c.args.r0 c.args.r1 c.leap.result c.requires.0 c.requires.1 k) tt in
+    let e = simp (is (v0 c.args.r0 c.requires.0) tt, e1, back c.ranges.ms) at c.line_at.ensures in
+    line-is c.args.r0 c.args.r1 c.leap.result c.args.ms c.line_at.result c.requires.0 c.requires.1 k e
 
 pub overflow_add-result : goal.overflow_add-result
 overflow_add-result c = ok (used c.args.r0 c.args.r1 c.args.ms c.line_at.result c.args.tide c.requires.0 c.requires.1 c.requires.2 c.requires.3 (line-there c)) tt
