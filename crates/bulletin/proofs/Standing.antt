@@ -1,6 +1,6 @@
 -- What is proved of a record that can stand in a row: the ranges of its fields, and that its decimals are no wider than their columns. Assumes nothing.
 use mathlib.Core.Path.{◌≡◌, ap}
-use mathlib.Core.Bool.{true, ◌&&◌}
+use mathlib.Core.Bool.{true, false, ◌&&◌}
 use mathlib.Core.List.{List}
 use Prim.Native.Nat.{ℕ, suc, ◌+◌, ◌-◌, ◌*◌, ◌≤◌, ◌<◌}
 use native.Mathlib.Omega.{arith}
@@ -14,6 +14,7 @@ use Rattle.whole.specs.Ranges.{eq_z}
 use Rattle.whole.proofs.Each.{below_each}
 use Rattle.whole.proofs.Linear.{and_true, abs_of, mul_pos_part, mul_neg_part}
 use Rattle.whole.proofs.Order.{eq_z_true}
+use Rattle.whole.proofs.Tests.{no_and, and_no}
 use Rattle.whole.proofs.Rounding.{floor_abs}
 use Rattle.fields.specs.declared.Day.{Day}
 use Rattle.fields.specs.Ranges.{inside, mjd, pole, ut1utc, taiutc, mark, Holds}
@@ -25,6 +26,11 @@ use Rattle.bulletin.specs.Decimals.{printed}
 use Rattle.bulletin.specs.Reading.{in_ranges_rule, day_count}
 use Rattle.bulletin.specs.Writing.{records_in, record_at_rule, list_right_rule, can_stand_rule}
 use Rattle.bulletin.proofs.Printing.{printed-most, printed_above}
+
+-- a record whose UT1-UTC is out of its range is not in its ranges, whatever its other fields are
+pub ut1_out : (d : Day) → inside ut1utc d.ut1_utc ≡ false → in_ranges_rule d ≡ false
+unfolding in_ranges_rule
+ut1_out d e = and_no (inside mjd d.mjd) _ (and_no (inside pole d.x) _ (and_no (inside pole d.y) _ (no_and (inside ut1utc d.ut1_utc) (inside taiutc d.tai_utc) e)))
 
 module _ (d : Day) (e : can_stand_rule d ≡ true) where
   tests : (in_ranges_rule d ≡ true) × (eqb (mod_z d.ut1_utc 100) 0 && eq_z d.mark (pos 1) ≡ true)

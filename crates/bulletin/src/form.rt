@@ -24,6 +24,7 @@ fn past_blanks(s: &[u8]) -> &[u8]
 }
 
 // Whether a `-` stands at the start.
+#[tactic(auto, using(crate::proofs::FormLaws::minus_none, crate::proofs::FormLaws::minus_some))]
 pub fn is_minus(s: &[u8]) -> bool
     ensures { result ≡ is_minus_rule s.now }
 {

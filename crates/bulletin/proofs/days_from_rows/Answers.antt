@@ -1,4 +1,5 @@
 -- `bulletin::days_from_rows` meets its contract. Assumes nothing.
+use borrow.Author.Rules.{rules}
 use mathlib.Core.Path.{◌≡◌, sym, ◌∙◌}
 use Prim.Native.Nat.{◌-◌, ◌≤◌}
 use native.Mathlib.Omega.{arith}
@@ -13,6 +14,9 @@ pub returns-then-text-gt65536 : goal.returns-then-text-gt65536
 returns-then-text-gt65536 c =
     let a = c.args in
     c.no_days.ensures ∙ sym (too_long a.text.now a.first a.count a.tai.now (lt-leb (length a.text.now) 65536 c.if-text-gt65536.true))
+
+pub list_rows-listed-requires : goal.list_rows-listed-requires
+list_rows-listed-requires c = (omega (arith, c.if-text-gt65536.false), search rules, search rules)
 
 pub returns-then-not-listed : goal.returns-then-not-listed
 returns-then-not-listed c =
@@ -30,4 +34,4 @@ days_among-requires c =
     (omega (arith, c.if-text-gt65536.false), rw e (l.ensures.2 (not-false _ c.if-not-listed.false)))
 
 pub returns : goal.returns
-returns c = let s = c in simp (back s.ranges.first, back s.ranges.count) at c.days_among.ensures
+returns c = simp (back c.ranges.first, back c.ranges.count) at c.days_among.ensures

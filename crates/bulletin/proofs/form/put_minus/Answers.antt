@@ -13,16 +13,14 @@ use Rattle.bulletin.proofs.form.put_minus.Goals as goal
 
 pub returns-then-z-lt0 : goal.returns-then-z-lt0
 returns-then-z-lt0 c =
-    let s = c in
-    let z = s.args.z in
-    let room = s.args.room.now in
-    let t : pos_part z < neg_part z = omega (arith, lt_z_true z _ (simp (back s.ranges.z) at c.if-z-lt0.true)) in
-    subst (λ (bs : List ℕ). Put room 0 bs (set room 0 45) 1) (sym (minus_is z t)) (put_one room 0 45 (omega (arith, s.requires)))
+    let z = c.args.z in
+    let room = c.args.room.now in
+    let t : pos_part z < neg_part z = omega (arith, lt_z_true z _ (simp (back c.ranges.z) at c.if-z-lt0.true)) in
+    subst (λ (bs : List ℕ). Put room 0 bs (set room 0 45) 1) (sym (minus_is z t)) (put_one room 0 45 (omega (arith, c.requires)))
 
 pub returns : goal.returns
 returns c =
-    let s = c in
-    let z = s.args.z in
-    let room = s.args.room.now in
-    let t : neg_part z ≤ pos_part z = omega (arith, lt_z_false z _ (simp (back s.ranges.z) at c.if-z-lt0.false)) in
+    let z = c.args.z in
+    let room = c.args.room.now in
+    let t : neg_part z ≤ pos_part z = omega (arith, lt_z_false z _ (simp (back c.ranges.z) at c.if-z-lt0.false)) in
     subst (λ (bs : List ℕ). Put room 0 bs room 0) (sym (minus_none z t)) (put_none room 0)

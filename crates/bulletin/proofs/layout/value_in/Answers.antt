@@ -8,19 +8,17 @@ use Rattle.bulletin.proofs.ColumnLaws.{bytes_are, bytes-long, bytes-wide, reache
 use Rattle.bulletin.proofs.layout.value_in.Goals as goal
 
 pub slice_bounds-units_of-end : goal.slice_bounds-units_of-end
-slice_bounds-units_of-end c = let s = c in reaches s.requires.0 s.args.row.now s.requires.1
+slice_bounds-units_of-end c = reaches c.requires.0 c.args.row.now c.requires.1
 
 pub units_of-requires : goal.units_of-requires
 units_of-requires c =
-    let s = c in
-    let a = s.requires.0 in
-    let row = s.args.row.now in
-    let r = reaches a row s.requires.1 in
+    let a = c.requires.0 in
+    let row = c.args.row.now in
+    let r = reaches a row c.requires.1 in
     let e = bytes_are a row in
-    (rw e (bytes-wide a row r), rw e (omega (arith, bytes-long a row r, a.narrow)), ap (is_decimal_rule s.args.c.decimals) e ∙ decimal-there a row s.requires.1)
+    (rw e (bytes-wide a row r), rw e (omega (arith, bytes-long a row r, a.narrow)), ap (is_decimal_rule c.args.c.decimals) e ∙ decimal-there a row c.requires.1)
 
 pub returns : goal.returns
 unfolding value_in_rule
 returns c =
-    let s = c in
-    ret c.units_of.result c.units_of.type_inv ∙ c.units_of.ensures ∙ ap (units_of_rule s.args.c.decimals) (bytes_are s.requires.0 s.args.row.now)
+    ret c.units_of.result c.units_of.type_inv ∙ c.units_of.ensures ∙ ap (units_of_rule c.args.c.decimals) (bytes_are c.requires.0 c.args.row.now)
