@@ -98,5 +98,11 @@ fn main(rt: HostRuntime) {
     }
     let mut stdin = rt.stdin();
     let mut buffer = [0u8; 65537];
-    run(&mut stdin, &mut buffer, numbers[0], numbers[1], &numbers[2..n]);
+    run(
+        &mut stdin,
+        &mut buffer,
+        numbers[0],
+        numbers[1],
+        &numbers[2..n],
+    );
 }
