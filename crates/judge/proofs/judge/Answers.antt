@@ -16,8 +16,9 @@ returns-then-not-call_in_range c =
 pub returns-then-not-ranges_ok : goal.returns-then-not-ranges_ok
 returns-then-not-ranges_ok c =
     let a = c.args in
-    let says : c.call_in_range.result ≡ in_range a.samples.now a.tolerance = c.call_in_range.ensures ∙ ap (in_range a.samples.now) (back c.ranges.tolerance) in
-    sym (answer_9 a.samples.now a.tolerance a.track.now (sym says ∙ c.if-not-call_in_range.false) (sym c.ranges_ok.ensures ∙ c.if-not-ranges_ok.true))
+    sym (answer_9 a.samples.now a.tolerance a.track.now
+    (sym (c.call_in_range.ensures ∙ ap (in_range a.samples.now) (back c.ranges.tolerance)) ∙ c.if-not-call_in_range.false)
+    (sym c.ranges_ok.ensures ∙ c.if-not-ranges_ok.true))
 
 pub overflow_cast-tolerance : goal.overflow_cast-tolerance
 overflow_cast-tolerance c =

@@ -1,5 +1,5 @@
 -- `judged` by the ways in which it ends: wrong lists, a file that the reader refuses, a room too short, no refusal.
-use Rattle.std.proofs.Common.{sym, ap, ◌∙◌, arith}
+use Rattle.std.proofs.Common.{◌≡◌, sym, ap, ◌∙◌, arith}
 use lib.Seq.{length-take-le}
 use Rattle.text.proofs.Puts.{put_inside, put_start}
 use Rattle.sections.specs.File.{refusal_of_rule}
@@ -35,7 +35,8 @@ pub returns-then-room-n : goal.returns-then-room-n
 returns-then-room-n c =
     let s = sym c.lists_right.ensures ∙ c.if-not-lists_right.false in
     let p = c.encode-n.ensures in
-    let f = sym (ap refusal_of_rule (put_start p)) ∙ sym c.refusal_of-by_reader.ensures.0 ∙ c.if-by_reader-ne0.false in
+    let read : c.refusal_of-by_reader.result ≡ 0 = c.if-by_reader-ne0.false in
+    let f = sym (ap refusal_of_rule (put_start p)) ∙ sym c.refusal_of-by_reader.ensures.0 ∙ read in
     (sym (by_short today _ _ _ s f (omega (arith, p.place, c.if-room-n.true))), omega arith)
 
 -- the file is accepted and the room is long enough

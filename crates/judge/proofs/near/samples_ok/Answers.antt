@@ -1,4 +1,4 @@
-use Rattle.std.proofs.Common.{◌≡◌, refl, sym, ap, subst, ◌∙◌, ℕ, ◌+◌, ◌*◌, ◌≤◌, ◌<◌, length, arith, ℤ, pos, ◌+ℤ◌, ◌-ℤ◌, ◌*ℤ◌, w64, to_z, of_z}
+use Rattle.std.proofs.Common.{◌≡◌, refl, sym, ap, subst, ◌∙◌, ℕ, ◌+◌, ◌*◌, ◌≤◌, length, arith, ℤ, pos, ◌+ℤ◌, ◌-ℤ◌, ◌*ℤ◌, w64, to_z, of_z}
 use borrow.Author.Tests.{lt-leb, le-leb}
 use mir.Val.{SFits}
 use Rattle.whole.specs.Whole.{pos_part, ∣◌∣}
@@ -33,6 +33,11 @@ loop-j-init c =
       size = omega (arith, bounds.0, ap (λ (y : ℤ). ∣ y ∣) starts);
       near = refl;
     }
+
+pub overflow_mul-s : goal.overflow_mul-s
+overflow_mul-s c =
+    let v = sample c.args.samples.now (c.args.at + c.loop-j.j) in
+    ok (lit (pos 65536) ⊠ var v 130_000_000_000 (c.requires.small.0 (c.args.at + c.loop-j.j))) tt
 
 pub overflow_sub-line : goal.overflow_sub-line
 overflow_sub-line c =
@@ -70,7 +75,7 @@ returns-then-most-size c =
     ∙ ap (λ (y : ℤ). ∣ to_z w64 (of_z w64 (y -ℤ to_z w64 (of_z w64 (pos 65536 *ℤ to_z w64 (of_z w64 v))))) ∣) line_is
     ∙ ap (λ (y : ℤ). ∣ y ∣) (is (line ⊟ scaled) tt) in
     sym (below_fails (pos_part x.count) j (near_at s (65536 * t) x c.args.at) (omega arith)
-    (lt-leb _ _ (subst (λ (n : ℕ). 65536 * t < n) says c.if-most-size.true)))
+    (lt-leb ∣ apart s x.offset x.rate c.args.at j ∣ (65536 * t) (omega (arith, says))))
 
 pub overflow_add-line : goal.overflow_add-line
 overflow_add-line c =
@@ -106,7 +111,7 @@ loop-j-preserved c =
     c.size.ensures
     ∙ ap (λ (y : ℤ). ∣ to_z w64 (of_z w64 (y -ℤ to_z w64 (of_z w64 (pos 65536 *ℤ to_z w64 (of_z w64 v))))) ∣) line_is
     ∙ ap (λ (y : ℤ). ∣ y ∣) (is (line ⊟ scaled) tt) in
-    let near : ∣ apart s x.offset x.rate c.args.at j ∣ ≤ 65536 * t = subst (λ (n : ℕ). n ≤ 65536 * t) says c.if-most-size.false in
+    let near : ∣ apart s x.offset x.rate c.args.at j ∣ ≤ 65536 * t = omega (arith, says) in
     let step = more x.offset x.rate j in
     record {
       most_is = refl;
