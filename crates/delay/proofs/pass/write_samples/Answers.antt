@@ -63,7 +63,7 @@ sample_at-r-requires c =
     }
 
 pub offset_bounds-room-i : goal.offset_bounds-room-i
-offset_bounds-room-i c = let h = few c.args.p c.requires.s_value.1 c.loop-i.i c.loop-i-test.true in record { fits = omega arith }
+offset_bounds-room-i k = let h = few k.args.p k.requires.s_value.1 k.loop-i.i k.loop-i-test.true in record { fits = omega arith }
 
 pub bounds-room-i : goal.bounds-room-i
 bounds-room-i c =
