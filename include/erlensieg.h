@@ -30,7 +30,7 @@
  *   For the second, PKG_CONFIG_PATH has PREFIX/lib/pkgconfig. On another processor it takes a cross compiler for x86-64
  *   and an emulator, as examples/run-host shows. This header is C99, C11 or C++17. The archive needs memcpy and memset
  *   of the C library, no other. It keeps nothing between calls, so calls may run at the same time. The stack that a
- *   call takes, as measured and rounded up: fringe_all_tracks 165,000 bytes, fringe_pass_track 99,000,
+ *   call takes, as measured with the older kit and rounded up: fringe_all_tracks 165,000 bytes, fringe_pass_track 99,000,
  *   fringe_days_from_rows 76,000, fringe_track 63,000, fringe_write 19,000, fringe_tide, fringe_orientation,
  *   fringe_delay and fringe_samples 3,400, fringe_rows_from_days 1,000, each of the others 400.
  *
