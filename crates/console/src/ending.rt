@@ -1,5 +1,5 @@
-// How a run ends: what of it was lost, in words on standard error, and its status. The kit's programs cannot end with a status, so it is written to
-// descriptor 3, where a caller may listen; where nobody does, that write fails and nothing else happens.
+// How a run ends: what of it was lost, in words on standard error, and its status. The status is written to descriptor 3, where a caller may listen; where
+// nobody does, that write fails and nothing else happens.
 ghost use Rattle.std.specs.Prelude.{◌≡◌, ◌||◌, not, ◌≤◌, pos};
 ghost use Rattle.whole.specs.Ranges.{eq_z};
 ghost use Rattle.console.specs.Status.{status_by};
