@@ -1,16 +1,18 @@
 // Whole-number arithmetic by document 01, 'Numbers used': signs and sizes, division rounded down or to the nearest, and products that pass 64 bits.
 #![tactic(auto)]
 
+pub mod below;
 pub mod divide;
 pub mod long;
+mod refusal;
 pub mod sign;
 
-ghost use Rattle.std.specs.Prelude.{◌≡◌, ◌<◌};
-ghost use Rattle.whole.specs.Answers.{no_number_rule};
+ghost use Rattle.std.specs.Prelude.{◌≡◌};
+ghost use Rattle.whole.specs.Answers.{answer_in};
 
-use sign::number;
+pub use refusal::Refusal;
 
-// What a call answers: 0 or the refusal's number, and a value, which is 0 where refused.
+// What a call answers: 0 or the refusal's number, and a value, which is 0 where refused. C reads it, so the number stands beside the value.
 #[repr(C)]
 #[derive(Drop)]
 pub struct Number {
@@ -18,13 +20,16 @@ pub struct Number {
     pub value: i64,
 }
 
-// The answer of a refused call.
-pub fn no_number(n: usize) -> Number
-    requires { n < 65536 }
-    ensures { result ≡ no_number_rule n }
-{
-    Number {
-        refusal: number(n),
-        value: 0,
+impl From<Result<i64, Refusal>> for Number {
+    ghost from_gives = { λ r n. n ≡ answer_in r };
+
+    fn from(answer: Result<i64, Refusal>) -> Number {
+        match answer {
+            Ok(value) => Number { refusal: 0, value },
+            Err(r) => Number {
+                refusal: r.number(),
+                value: 0,
+            },
+        }
     }
 }

@@ -108,7 +108,7 @@ pub fn light_time(g: i64) -> i64
     )
 }
 
-// floor(x / 1,024).
+// floor(x / 1,024). `upper` is its like for 2^15: with a const parameter the clause would have a power in it, and the body is one shift.
 fn upper_part(x: i64) -> i64
     ensures { result ≡ floor_z x 1024 }
 {

@@ -1,4 +1,5 @@
-// A signed number's size, its sign, its place in a range, and a number of the code as one.
+// A signed number's size, its sign, its place in a range, and a number of the code as one. docs/CALLS.md has these names. `number` is no `try_from`: its Err is
+// what the clause shuts out.
 ghost use Rattle.std.specs.Prelude.{◌≡◌, ◌^◌, ◌<◌, pos};
 ghost use Rattle.whole.specs.Ranges.{within};
 ghost use Rattle.whole.specs.Whole.{∣◌∣, sign_of};
@@ -7,18 +8,14 @@ ghost use Rattle.whole.specs.Whole.{∣◌∣, sign_of};
 pub fn in_range(x: i64, lo: i64, hi: i64) -> bool
     ensures { result ≡ within lo hi x }
 {
-    lo <= x && x <= hi
+    (lo..=hi).contains(&x)
 }
 
 // The size of x; that of the least i64 fits too.
 pub fn size(x: i64) -> u64
     ensures { result ≡ ∣ x ∣ }
 {
-    if x >= 0 {
-        x as u64
-    } else {
-        (-1 - x) as u64 + 1
-    }
+    x.unsigned_abs()
 }
 
 // n, or -n where it is to be negative.
