@@ -3,16 +3,17 @@ use mathlib.Core.Path.{◌≡◌, refl, sym, ap, ◌∙◌}
 use mathlib.Core.Bool.{Bool, true, false}
 use mathlib.Core.List.{List, [], ◌∷◌, ◌++◌}
 use Prim.Native.Nat.{ℕ, zero, suc, ◌+◌, ◌-◌, ◌*◌, ◌/◌, ◌%◌, ◌^◌, ◌≤◌, ◌<◌}
+use native.Mathlib.Numerals.{add-one}
 use native.Mathlib.Omega.{arith}
 use borrow.Author.Tests.{ltb-true, ltb-false, lt-ltb, le-ltb}
 use lib.Dec.{ltb, lit≤}
 use lib.ListN.{length, get_or, length-append, get_or-append}
-use lib.IntN.{ℤ, pos, negsuc}
+use lib.IntN.{ℤ, pos, negsuc, nat_abs}
+use lib.Signed.{lt_z}
 use mir.Syntax.{w64}
 use mir.Val.{SFits}
-use native.Mathlib.Nat.{add-zero, zero-add}
-use Rattle.whole.specs.Whole.{pos_part, neg_part, ∣◌∣}
-use Rattle.whole.proofs.Linear.{fits⇒}
+use native.Mathlib.Nat.{one-le-pow}
+use Rattle.std.proofs.Common.{Option, Some, None, IfSome, IfNone, unwrap_or}
 use Rattle.text.specs.Decimal.{digits_by, digits_of, decimal, read_from_rule, read}
 
 single : (k n : ℕ) → n < 10 → digits_by (suc k) n ≡ (48 + n) ∷ []
@@ -58,6 +59,28 @@ module _ (F : ℕ → Type 0) (one : (n : ℕ) → n < 10 → F n) (more : (n : 
 
   pub by_tenths : (n : ℕ) → F n
   by_tenths n = up_to (suc n) n (omega arith)
+
+-- ---- so many digits of a number, from the last on
+
+unfoldable pub lowest : ℕ → ℕ → List ℕ
+lowest zero n = []
+lowest (suc k) n = lowest k (n / 10) ++ ((48 + n % 10) ∷ [])
+
+pub lowest_long : (k n : ℕ) → length (lowest k n) ≡ k
+unfolding lowest
+lowest_long zero n = refl
+lowest_long (suc k) n = length-append (lowest k (n / 10)) ((48 + n % 10) ∷ []) ∙ omega (arith, lowest_long k (n / 10))
+
+-- as many as it has are all
+pub lowest_all : (n : ℕ) → lowest (length (digits_of n)) n ≡ digits_of n
+unfolding lowest
+lowest_all = by_tenths (λ (n : ℕ). lowest (length (digits_of n)) n ≡ digits_of n) one more
+  where
+    one : (n : ℕ) → n < 10 → lowest (length (digits_of n)) n ≡ digits_of n
+    one n h = let e : n % 10 ≡ n = omega arith in rw (one_digit n h, e) refl
+
+    more : (n : ℕ) → 10 ≤ n → lowest (length (digits_of (n / 10))) (n / 10) ≡ digits_of (n / 10) → lowest (length (digits_of n)) n ≡ digits_of n
+    more n h e = rw (length_more n h, add-one, more_digits n h) (ap (λ (ds : List ℕ). ds ++ ((48 + n % 10) ∷ [])) e)
 
 -- ---- the digits say the number
 
@@ -114,18 +137,29 @@ pub at_most : (j n : ℕ) → n < 10 ^ suc j → length (digits_of n) ≤ suc j
 at_most zero n h = rw (one_digit n (omega arith)) (lit≤ tt)
 at_most (suc j) n h = at_most_by j n (λ (m : 10 ≤ n). at_most j (n / 10) (omega arith)) (ltb n 10) refl
 
+-- from 10^k on, and below ten times that, one more than k
+pub counted : (k n : ℕ) → 10 ^ k ≤ n → n < 10 * 10 ^ k → length (digits_of n) ≡ k + 1
+counted zero n l h = rw (one_digit n (omega arith)) refl
+counted (suc k) n l h = let p : 1 ≤ 10 ^ k = one-le-pow k 10 (omega arith) in omega (arith, length_more n (omega arith), counted k (n / 10) (omega arith) (omega arith))
+
+-- 0 has one digit, and every other number one more than its logarithm says
+pub by_logarithm : (n : ℕ) (r : Option ℕ) → IfNone r (n ≡ 0) → IfSome r (λ k. 10 ^ k ≤ n) → IfSome r (λ k. n < 10 * 10 ^ k) → unwrap_or r 0 + 1 ≡ length (digits_of n)
+by_logarithm n None z low high = omega (arith, ap length (one_digit n (omega arith)))
+by_logarithm n (Some k) z low high = sym (counted k n low high)
+
 -- ---- whole numbers
 
-pub below_zero : (z : ℤ) → pos_part z < neg_part z → decimal z ≡ 45 ∷ digits_of ∣ z ∣
+pub below_zero : (z : ℤ) → lt_z z (pos 0) ≡ true → decimal z ≡ 45 ∷ digits_of (nat_abs z)
 unfolding decimal
-below_zero (pos n) h = absurd (omega (arith, h))
-below_zero (negsuc n) h = ap (λ (k : ℕ). 45 ∷ digits_of k) (sym (zero-add (suc n)))
+below_zero (pos n) h = absurd (omega (arith, ltb-true n 0 h))
+below_zero (negsuc n) h = refl
 
-pub from_zero : (z : ℤ) → neg_part z ≤ pos_part z → decimal z ≡ digits_of ∣ z ∣
+pub from_zero : (z : ℤ) → lt_z z (pos 0) ≡ false → decimal z ≡ digits_of (nat_abs z)
 unfolding decimal
-from_zero (pos n) h = ap digits_of (sym (add-zero n))
-from_zero (negsuc n) h = absurd (omega (arith, h))
+from_zero (pos n) h = refl
+from_zero (negsuc n) h = (cc)
 
 -- the digits of a machine's number, without its sign
-pub nineteen : (z : ℤ) → SFits w64 z → length (digits_of ∣ z ∣) ≤ 19
-nineteen z f = at_most 18 ∣ z ∣ (omega (arith, fits⇒ z f))
+pub nineteen : (z : ℤ) → SFits w64 z → length (digits_of (nat_abs z)) ≤ 19
+nineteen (pos n) f = at_most 18 n (omega (arith, f.sfits))
+nineteen (negsuc n) f = at_most 18 (suc n) (omega (arith, f.sfits))

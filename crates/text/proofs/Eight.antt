@@ -1,16 +1,18 @@
--- Eight bytes and their number: writing and reading undo each other.
+-- Eight bytes and their number: writing and reading undo each other, and the library's methods do both.
 -- Assumes nothing.
-use mathlib.Core.Path.{◌≡◌, sym, ap, ◌∙◌}
-use Prim.Native.Nat.{ℕ, suc, ◌+◌, ◌*◌, ◌/◌, ◌%◌, ◌≤◌, ◌<◌}
+use mathlib.Core.Path.{◌≡◌, sym, ap, ap₂, ◌∙◌}
+use Prim.Native.Nat.{ℕ, zero, suc, ◌+◌, ◌*◌, ◌/◌, ◌%◌, ◌^◌, ◌≤◌, ◌<◌}
 use native.Mathlib.Nat.{add-zero}
 use native.Mathlib.Omega.{arith}
-use mathlib.Core.List.{List, [], ◌∷◌, ◌++◌, append_assoc}
-use lib.ListN.{length, get_or, take, drop}
-use native.Mathlib.Numerals.{add-one}
-use lib.Seq.{drop-cons, sets-eq, get_or-append-add}
+use mathlib.Core.List.{List, [], ◌∷◌, ◌++◌}
+use lib.Dec.{lit<}
+use lib.ListN.{length, get_or, take, drop, length-drop, take-append-drop}
+use lib.Seq.{length-take-le, drop-drop, get_or-append-add, get_or-drop}
+use Rattle.std.proofs.lemmas.List.{get_or-take}
+use Rattle.std.proofs.lemmas.Nat.{le_bytes_8}
+use Rattle.std.specs.Int.{w64, from_le_bytes, to_le_bytes}
 use Rattle.text.specs.Words.{bits_at}
 use Rattle.text.specs.Bytes.{bytes_of}
-use Rattle.text.specs.Code.{put_quad_rule, put_bits_rule}
 use Rattle.text.proofs.Numbers.{Bytes}
 
 -- the number of eight bytes, given in parts
@@ -49,71 +51,47 @@ read-written p q w =
     let e7 : length p + 6 + 1 ≡ length p + 7 = omega arith in
     rw (e6, e3, e5, e7, g0, g 1, g 2, g 3, g 4, g 5, g 6, g 7) (bytes-number w)
 
--- writing eight bytes from at on replaces those
-pub written : (d : List ℕ) (at w : ℕ) → at + 8 ≤ length d → put_bits_rule d at w ≡ take at d ++ (bytes_of w ++ drop (at + 8) d)
-unfolding put_bits_rule put_quad_rule bytes_of
-written d at w h =
-    let e1 : at + 1 ≡ suc at = omega arith in
-    let e2 : at + 2 ≡ suc (suc at) = omega arith in
-    let e3 : suc (suc at) + 1 ≡ suc (suc (suc at)) = omega arith in
-    let e4 : at + 4 ≡ suc (suc (suc (suc at))) = omega arith in
-    let e5 : suc (suc (suc (suc at))) + 1 ≡ suc (suc (suc (suc (suc at)))) = omega arith in
-    let e6 : suc (suc (suc (suc at))) + 2 ≡ suc (suc (suc (suc (suc (suc at))))) = omega arith in
-    let e7 : suc (suc (suc (suc (suc (suc at))))) + 1 ≡ suc (suc (suc (suc (suc (suc (suc at)))))) = omega arith in
-    rw (e4, e2, e6, e1, e3, e5, e7) (sets-eq (bytes_of w) d at h ∙ append_assoc (take at d) (bytes_of w) (drop (at + 8) d))
-
-two-low : (a b : ℕ) → a < 256 → two a b % 256 ≡ a
-two-low a b h = omega arith
-
-two_high : (a b : ℕ) → a < 256 → two a b / 256 ≡ b
-two_high a b h = omega arith
-
-four_low : (x y : ℕ) → x < 65536 → (x + 65536 * y) % 65536 ≡ x
-four_low x y h = omega arith
-
-four_high : (x y : ℕ) → x < 65536 → (x + 65536 * y) / 65536 ≡ y
-four_high x y h = omega arith
-
-eight_low : (x y : ℕ) → x < 4294967296 → (x + 4294967296 * y) % 4294967296 ≡ x
-eight_low x y h = omega arith
-
-eight_high : (x y : ℕ) → x < 4294967296 → (x + 4294967296 * y) / 4294967296 ≡ y
-eight_high x y h = omega arith
-
--- the bytes of the number of eight bytes are those
-number-bytes : (a b c d e f g h : ℕ) → a < 256 → b < 256 → c < 256 → d < 256 → e < 256 → f < 256 → g < 256 → h < 256
-    → bytes_of (eight a b c d e f g h) ≡ a ∷ b ∷ c ∷ d ∷ e ∷ f ∷ g ∷ h ∷ []
-unfolding eight bytes_of
-number-bytes a b c d e f g h ha hb hc hd he hf hg hh =
-    let p : two a b < 65536 = omega arith in
-    let q : two c d < 65536 = omega arith in
-    let r : two e f < 65536 = omega arith in
-    let s : two a b + 65536 * two c d < 4294967296 = omega arith in
-    rw (eight_low (two a b + 65536 * two c d) (two e f + 65536 * two g h) s, eight_high (two a b + 65536 * two c d) (two e f + 65536 * two g h) s)
-    (rw (four_low (two a b) (two c d) p, four_high (two a b) (two c d) p, four_low (two e f) (two g h) r, four_high (two e f) (two g h) r)
-    (simp (two-low, two_high)))
-
--- what stands from at on, in front of what stands past it
-pub written_read : (s : List ℕ) (at : ℕ) → Bytes s → at + 8 ≤ length s → bytes_of (bits_at s at) ++ drop (at + 8) s ≡ drop at s
-unfolding bits_at eight
-written_read s at b h =
-    let e2 : at + 1 + 1 ≡ at + 2 = omega arith in
+-- what the library reads of eight bytes is their number
+pub read_bytes : (s : List ℕ) (at : ℕ) → from_le_bytes w64 (take 8 (drop at s)) ≡ bits_at s at
+unfolding bits_at
+read_bytes s at =
+    let g : (k : ℕ) → k < 8 → get_or (take 8 (drop at s)) k 0 ≡ get_or s (at + k) 0 = λ k h. get_or-take 8 (drop at s) k 0 h ∙ get_or-drop at s k 0 in
+    let g0 : get_or (take 8 (drop at s)) 0 0 ≡ get_or s at 0 = g 0 (lit< tt) ∙ ap (λ (n : ℕ). get_or s n 0) (add-zero at) in
     let e3 : at + 2 + 1 ≡ at + 3 = omega arith in
-    let e4 : at + 3 + 1 ≡ at + 4 = omega arith in
     let e5 : at + 4 + 1 ≡ at + 5 = omega arith in
     let e6 : at + 4 + 2 ≡ at + 6 = omega arith in
     let e7 : at + 6 + 1 ≡ at + 7 = omega arith in
-    let next : (k : ℕ) → k < length s → drop k s ≡ get_or s k 0 ∷ drop (k + 1) s = λ k l. rw add-one (drop-cons s k 0 l) in
-    let n0 = next at (omega arith) in
-    let n1 = next (at + 1) (omega arith) in
-    let n2 = next (at + 2) (omega arith) in
-    let n3 = next (at + 3) (omega arith) in
-    let n4 = next (at + 4) (omega arith) in
-    let n5 = next (at + 5) (omega arith) in
-    let n6 = next (at + 6) (omega arith) in
-    let n7 = next (at + 7) (omega arith) in
-    let f5 : at + 5 + 1 ≡ at + 6 = omega arith in
-    let f7 : at + 7 + 1 ≡ at + 8 = omega arith in
-    let m = number-bytes (get_or s at 0) (get_or s (at + 1) 0) (get_or s (at + 2) 0) (get_or s (at + 3) 0) (get_or s (at + 4) 0) (get_or s (at + 5) 0) (get_or s (at + 6) 0) (get_or s (at + 7) 0)
-    (b at) (b (at + 1)) (b (at + 2)) (b (at + 3)) (b (at + 4)) (b (at + 5)) (b (at + 6)) (b (at + 7)) in
-    rw (e6, e3, e5, e7, m) (cc)
+    rw (e6, e3, e5, e7) (omega (arith, g0, g 1 (lit< tt), g 2 (lit< tt), g 3 (lit< tt), g 4 (lit< tt), g 5 (lit< tt), g 6 (lit< tt), g 7 (lit< tt)))
+
+-- and what it makes of a word are the word's bytes
+pub word_bytes : (w : ℕ) → w < 2 ^ 64 → to_le_bytes w64 w ≡ bytes_of w
+unfolding bytes_of
+word_bytes w h =
+    let e0 : w % 256 ≡ w % 4294967296 % 65536 % 256 = omega arith in
+    let e1 : w / 256 % 256 ≡ w % 4294967296 % 65536 / 256 = omega arith in
+    let e2 : w / 65536 % 256 ≡ w % 4294967296 / 65536 % 256 = omega arith in
+    let e3 : w / 16777216 % 256 ≡ w % 4294967296 / 65536 / 256 = omega arith in
+    let e4 : w / 4294967296 % 256 ≡ w / 4294967296 % 65536 % 256 = omega arith in
+    let e5 : w / 1099511627776 % 256 ≡ w / 4294967296 % 65536 / 256 = omega arith in
+    let e6 : w / 281474976710656 % 256 ≡ w / 4294967296 / 65536 % 256 = omega arith in
+    let e7 : w / 72057594037927936 % 256 ≡ w / 4294967296 / 65536 / 256 = omega arith in
+    cc
+
+bits_below : (s : List ℕ) (at : ℕ) → Bytes s → bits_at s at < 2 ^ 64
+unfolding bits_at
+bits_below s at b = omega (arith, b at, b (at + 1), b (at + 2), b (at + 2 + 1), b (at + 4), b (at + 4 + 1), b (at + 4 + 2), b (at + 4 + 2 + 1))
+
+taken_below : (n : ℕ) (s : List ℕ) (k : ℕ) → get_or s k 0 < 256 → get_or (take n s) k 0 < 256
+taken_below zero s k h = lit< tt
+taken_below (suc n) [] k h = h
+taken_below (suc n) (x ∷ s) zero h = h
+taken_below (suc n) (x ∷ s) (suc k) h = taken_below n s k h
+
+-- what stands from at on, in front of what stands past it
+pub written_read : (s : List ℕ) (at : ℕ) → Bytes s → at + 8 ≤ length s → bytes_of (bits_at s at) ++ drop (at + 8) s ≡ drop at s
+written_read s at b h =
+    let bs = take 8 (drop at s) in
+    let l : length bs ≡ 8 = length-take-le 8 (drop at s) (omega (arith, length-drop at s)) in
+    let m : (i : ℕ) → get_or bs i 0 < 256 = λ i. taken_below 8 (drop at s) i (rw (get_or-drop at s i 0) (b (at + i))) in
+    let e : bytes_of (bits_at s at) ≡ bs = sym (word_bytes (bits_at s at) (bits_below s at b)) ∙ le_bytes_8 bs (bits_at s at) l m (sym (read_bytes s at)) in
+    ap₂ ◌++◌ e (sym (drop-drop 8 at s)) ∙ take-append-drop 8 (drop at s)

@@ -2,29 +2,29 @@
 use mathlib.Core.Path.{◌≡◌, refl, sym, ap, ◌∙◌}
 use mathlib.Core.Bool.{Bool, true, false}
 use mathlib.Core.List.{List, [], ◌∷◌}
-use Prim.Native.Nat.{ℕ, suc, ◌+◌, ◌-◌, ◌≤◌, ◌<◌}
+use Prim.Native.Nat.{ℕ, zero, suc, ◌+◌, ◌-◌, ◌≤◌}
 use native.Mathlib.Numerals.{add-one}
 use native.Mathlib.Omega.{arith}
 use borrow.Author.Tests.{eq-eqb, ne_eqb}
 use lib.Dec.{eqb}
 use lib.ListN.{length, get_or, take, drop, length-drop}
-use lib.Seq.{drop-cons, drop-drop, drop-length}
+use lib.Seq.{drop-drop}
+use Rattle.std.specs.List.{slice_split, onto_first}
 use Rattle.text.specs.Lines.{first_line, past_line, line_of}
 
--- ---- from byte i on: the line ends there, or has one byte more
+-- ---- a line has as many bytes as stand before the first line feed
 
-module _ (s : List ℕ) (i : ℕ) (h : i < length s) where
-  pub ends : get_or s i 0 ≡ 10 → length (first_line (drop i s)) ≡ 0
-  unfolding first_line
-  ends e = rw (drop-cons s i 0, eq-eqb (get_or s i 0) 10 e)
-
-  pub goes_on : (get_or s i 0 ≡ 10 → ⊥) → length (first_line (drop i s)) ≡ suc (length (first_line (drop (i + 1) s)))
-  unfolding first_line
-  goes_on f = rw (add-one, drop-cons s i 0, ne_eqb (get_or s i 0) 10 f)
-
-pub ends_last : (s : List ℕ) → length (first_line (drop (length s) s)) ≡ 0
+pub none : length (first_line []) ≡ 0
 unfolding first_line
-ends_last s = rw drop-length
+none = refl
+
+pub hit : (b : ℕ) (s : List ℕ) → b ≡ 10 → length (first_line (b ∷ s)) ≡ 0
+unfolding first_line
+hit b s e = rw (eq-eqb b 10 e)
+
+pub miss : (b : ℕ) (s : List ℕ) → ¬ (b ≡ 10) → length (first_line (b ∷ s)) ≡ length (first_line s) + 1
+unfolding first_line
+miss b s f = rw (ne_eqb b 10 f, add-one)
 
 -- ---- a line is the start of the text, and what is past it the rest
 
@@ -70,21 +70,36 @@ module _ (s : List ℕ) (at end : ℕ) (h : at ≤ length s) (e : end ≡ at + l
       let f : end + 1 ≡ at + suc (length (first_line (drop at s))) = omega (arith, e) in
       rw f (sym (drop-drop (suc (length (first_line (drop at s)))) at s) ∙ past_is (drop at s))
 
-  -- and nothing, where the text ends with the line
-  pub last_is : end ≡ length s → drop (length s) s ≡ past_line (drop at s)
-  last_is f =
-      let g : drop (length s) s ≡ drop (length s + 1) s = drop-length s ∙ ap (drop 1) (sym (drop-length s)) ∙ drop-drop 1 (length s) s in
-      g ∙ ap (λ (n : ℕ). drop (n + 1) s) (sym f) ∙ next_is
-
   pub part_is : take (end - at) (drop at s) ≡ first_line (drop at s)
   part_is = let f : end - at ≡ length (first_line (drop at s)) = omega (arith, e) in ap (λ (n : ℕ). take n (drop at s)) f ∙ first_is (drop at s)
 
--- ---- line k
+-- ---- a text, cut at each line feed
 
-pub line_first : (s : List ℕ) → line_of s 0 ≡ first_line s
-unfolding line_of
-line_first s = refl
+abbrev feed : ℕ → Bool
+feed b = eqb b 10
 
-pub line-next : (s : List ℕ) (k : ℕ) → line_of s (suc k) ≡ line_of (past_line s) k
-unfolding line_of
-line-next s k = refl
+no_line : (k : ℕ) → line_of [] k ≡ []
+unfolding line_of first_line past_line
+no_line zero = refl
+no_line (suc k) = no_line k
+
+onto-first : (b : ℕ) (ls : List (List ℕ)) → get_or (onto_first b ls) 0 [] ≡ b ∷ get_or ls 0 []
+onto-first b [] = refl
+onto-first b (l ∷ ls) = refl
+
+onto_rest : (b : ℕ) (ls : List (List ℕ)) (k : ℕ) → get_or (onto_first b ls) (suc k) [] ≡ get_or ls (suc k) []
+onto_rest b [] k = refl
+onto_rest b (l ∷ ls) k = refl
+
+cut_by : (b : ℕ) (s : List ℕ) (k : ℕ) → ((j : ℕ) → get_or (slice_split feed s) j [] ≡ line_of s j) → (t : Bool) → eqb b 10 ≡ t → get_or (slice_split feed (b ∷ s)) k [] ≡ line_of (b ∷ s) k
+unfolding line_of first_line past_line
+cut_by b s zero f true h = rw h
+cut_by b s (suc k) f true h = rw h (f k)
+cut_by b s zero f false h = rw h (onto-first b (slice_split feed s) ∙ ap (λ (l : List ℕ). b ∷ l) (f 0))
+cut_by b s (suc k) f false h = rw h (onto_rest b (slice_split feed s) k ∙ f (suc k))
+
+pub cut_lines : (s : List ℕ) (k : ℕ) → get_or (slice_split (λ b. eqb b 10) s) k [] ≡ line_of s k
+unfolding line_of first_line
+cut_lines [] zero = refl
+cut_lines [] (suc k) = sym (no_line (suc k))
+cut_lines (b ∷ s) k = cut_by b s k (cut_lines s) (eqb b 10) refl

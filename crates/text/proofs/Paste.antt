@@ -1,21 +1,27 @@
 -- Bytes that are put into a list, one run after the other. Assumes nothing.
 use mathlib.Core.Path.{◌≡◌, refl, sym, ap, ap₂, ◌∙◌}
-use Prim.Native.Nat.{ℕ, ◌+◌, ◌*◌, ◌≤◌, ◌<◌}
+use Prim.Native.Nat.{ℕ, ◌+◌, ◌*◌, ◌^◌, ◌≤◌, ◌<◌}
 use native.Mathlib.Nat.{add-zero}
 use native.Mathlib.Numerals.{add-one}
 use native.Mathlib.Omega.{arith}
 use mathlib.Core.List.{List, [], ◌∷◌, ◌++◌, append_assoc, append-nil}
 use lib.ListN.{length, get_or, set, take, drop, length-append, length-drop, take-append-drop}
+use borrow.Rule.Slice.PartMut.{put_mid}
 use lib.Seq.{length-take-le, take_at, drop-append-add, drop-drop, take-suc, set_split}
+use Rattle.std.specs.Int.{w64, to_le_bytes}
 use Rattle.text.specs.Bytes.{bytes_of, bytes_of_all}
-use Rattle.text.specs.Code.{put_bits_rule}
 use Rattle.text.specs.Bytes.{pasted}
-use Rattle.text.proofs.Eight.{written}
-use Rattle.text.proofs.All.{eight_long, all_long}
+use Rattle.text.proofs.Eight.{word_bytes}
+use Rattle.text.proofs.All.{all_long}
 
 pub pasted-none : (d : List ℕ) (at : ℕ) → pasted d at [] ≡ d
 unfolding pasted
 pasted-none d at = rw add-zero (take-append-drop at d)
+
+-- a part of the list that is written over
+pub part_pasted : (d b s : List ℕ) (at k : ℕ) → b ≡ s → k ≡ length s → put_mid at k d b ≡ pasted d at s
+unfolding pasted
+part_pasted d b s at k e f = ap₂ (λ (x : List ℕ) (n : ℕ). take at d ++ (x ++ drop n (drop at d))) e f ∙ ap (λ (x : List ℕ). take at d ++ (s ++ x)) (drop-drop (length s) at d)
 
 module _ (d : List ℕ) (at : ℕ) (bs : List ℕ) (h : at + length bs ≤ length d) where
   front : length (take at d ++ bs) ≡ at + length bs
@@ -49,36 +55,27 @@ module _ (d : List ℕ) (at : ℕ) (bs : List ℕ) (h : at + length bs ≤ lengt
       (sym (append_assoc bs cs (drop (at + length bs + length cs) d))
       ∙ ap (λ (n : ℕ). (bs ++ cs) ++ drop n d) e)
 
-all_append : (xs ys : List ℕ) → bytes_of_all (xs ++ ys) ≡ bytes_of_all xs ++ bytes_of_all ys
-unfolding bytes_of_all
-all_append [] ys = refl
-all_append (x ∷ xs) ys = rw (all_append xs ys) (sym (append_assoc (bytes_of x) (bytes_of_all xs) (bytes_of_all ys)))
-
 pub bytes-append : (xs ys : List ℕ) → bytes_of_all (xs ++ ys) ≡ bytes_of_all xs ++ bytes_of_all ys
-bytes-append = all_append
+unfolding bytes_of_all
+bytes-append [] ys = refl
+bytes-append (x ∷ xs) ys = rw (bytes-append xs ys) (sym (append_assoc (bytes_of x) (bytes_of_all xs) (bytes_of_all ys)))
 
 one : (w : ℕ) → bytes_of_all (w ∷ []) ≡ bytes_of w
 unfolding bytes_of_all
 one w = append-nil (bytes_of w)
 
 all_more : (ws : List ℕ) (j : ℕ) → j < length ws → bytes_of_all (take (j + 1) ws) ≡ bytes_of_all (take j ws) ++ bytes_of (get_or ws j 0)
-all_more ws j h = rw (add-one j, take-suc ws j 0 h, all_append (take j ws) (get_or ws j 0 ∷ []), one (get_or ws j 0))
-
-as_paste : (d : List ℕ) (n w : ℕ) → n + 8 ≤ length d → put_bits_rule d n w ≡ pasted d n (bytes_of w)
-unfolding pasted
-as_paste d n w h = written d n w h ∙ ap (λ (m : ℕ). take n d ++ (bytes_of w ++ drop (n + m) d)) (sym (eight_long w))
+all_more ws j h = rw (add-one j, take-suc ws j 0 h, bytes-append (take j ws) (get_or ws j 0 ∷ []), one (get_or ws j 0))
 
 -- one word more
-pub words_more : (d : List ℕ) (at : ℕ) (ws : List ℕ) (j : ℕ) → at + 8 * length ws ≤ length d → j < length ws
-    → put_bits_rule (pasted d at (bytes_of_all (take j ws))) (at + 8 * j) (get_or ws j 0) ≡ pasted d at (bytes_of_all (take (j + 1) ws))
-words_more d at ws j h k =
+pub words_more : (d d₁ d₂ b ws : List ℕ) (at j w : ℕ) → at + 8 * length ws ≤ length d → j < length ws → get_or ws j 0 ≡ w → w < 2 ^ 64
+    → d₁ ≡ pasted d at (bytes_of_all (take j ws)) → b ≡ to_le_bytes w64 w → d₂ ≡ pasted d₁ (at + 8 * j) b → d₂ ≡ pasted d at (bytes_of_all (take (j + 1) ws))
+words_more d d₁ d₂ b ws at j w h k q f e₁ eb e₂ =
     let bs = bytes_of_all (take j ws) in
-    let w = get_or ws j 0 in
     let l : length bs ≡ 8 * j = all_long (take j ws) ∙ ap (λ (n : ℕ). 8 * n) (length-take-le j ws (omega arith)) in
     let e : at + 8 * j ≡ at + length bs = omega arith in
-    let f : at + length bs ≤ length d = omega arith in
-    let g : pasted (pasted d at bs) (at + length bs) (bytes_of w) ≡ pasted d at (bs ++ bytes_of w) = pasted-next d at bs f (bytes_of w) in
-    rw (e, all_more ws j k) (as_paste (pasted d at bs) (at + length bs) w (omega (arith, pasted-long d at bs f)) ∙ g)
+    let m : bytes_of_all (take (j + 1) ws) ≡ bs ++ bytes_of w = all_more ws j k ∙ ap (λ (n : ℕ). bs ++ bytes_of n) q in
+    rw (e₂, e₁, eb, word_bytes w f, e, m) (pasted-next d at bs (omega arith) (bytes_of w))
 
 -- words behind words
 pub more : (d d₁ d₂ xs ys : List ℕ) (n : ℕ) → d₁ ≡ pasted d 0 (bytes_of_all xs) → d₂ ≡ pasted d₁ n (bytes_of_all ys) → n ≡ 8 * length xs → 8 * length xs ≤ length d
@@ -86,21 +83,9 @@ pub more : (d d₁ d₂ xs ys : List ℕ) (n : ℕ) → d₁ ≡ pasted d 0 (byt
 more d d₁ d₂ xs ys n e f g h =
     let l = all_long xs in
     let m : n ≡ 0 + length (bytes_of_all xs) = omega arith in
-    f ∙ ap₂ (λ (x : List ℕ) (k : ℕ). pasted x k (bytes_of_all ys)) e m ∙ pasted-next d 0 (bytes_of_all xs) (omega arith) (bytes_of_all ys) ∙ ap (pasted d 0) (sym (all_append xs ys))
+    f ∙ ap₂ (λ (x : List ℕ) (k : ℕ). pasted x k (bytes_of_all ys)) e m ∙ pasted-next d 0 (bytes_of_all xs) (omega arith) (bytes_of_all ys) ∙ ap (pasted d 0) (sym (bytes-append xs ys))
 
--- one byte, and one byte more of a list of them
+-- one byte
 pub byte_one : (d : List ℕ) (at b : ℕ) → at < length d → set d at b ≡ pasted d at (b ∷ [])
 unfolding pasted
 byte_one d at b h = rw (add-one at) (set_split d at b h)
-
-pub byte_more : (d : List ℕ) (at : ℕ) (s : List ℕ) (j : ℕ) → j < length s → at + length s ≤ length d
-    → set (pasted d at (take j s)) (at + j) (get_or s j 0) ≡ pasted d at (take (j + 1) s)
-byte_more d at s j h k =
-    let bs = take j s in
-    let b = get_or s j 0 in
-    let l : length bs ≡ j = length-take-le j s (omega arith) in
-    let w : take (j + 1) s ≡ bs ++ (b ∷ []) = ap (λ (n : ℕ). take n s) (add-one j) ∙ take-suc s j 0 h in
-    byte_one (pasted d at bs) (at + j) b (omega (arith, pasted-long d at bs (omega (arith, l))))
-    ∙ ap (λ (n : ℕ). pasted (pasted d at bs) (at + n) (b ∷ [])) (sym l)
-    ∙ pasted-next d at bs (omega (arith, l)) (b ∷ [])
-    ∙ ap (pasted d at) (sym w)

@@ -1,8 +1,8 @@
 -- What is proved of digits that are read. Assumes nothing.
 use mathlib.Core.Path.{◌≡◌, refl, ap, ◌∙◌}
-use mathlib.Core.Bool.{true, ◌&&◌}
+use mathlib.Core.Bool.{Bool, true, ◌&&◌}
 use mathlib.Core.List.{List, [], ◌∷◌, ◌++◌}
-use Prim.Native.Nat.{ℕ, ◌+◌, ◌-◌, ◌*◌, ◌/◌, ◌%◌, ◌^◌, ◌≤◌, ◌<◌}
+use Prim.Native.Nat.{ℕ, zero, suc, ◌+◌, ◌-◌, ◌*◌, ◌/◌, ◌%◌, ◌^◌, ◌≤◌, ◌<◌}
 use native.Mathlib.Nat.{pow-le-pow_right}
 use native.Mathlib.Numerals.{add-one}
 use native.Mathlib.Omega.{arith}
@@ -10,6 +10,7 @@ use borrow.Author.Tests.{leb-true, le-leb}
 use lib.Dec.{leb}
 use lib.ListN.{length, get_or, take, drop}
 use lib.Seq.{drop-cons, drop-length}
+use Rattle.std.specs.List.{list_all}
 use Rattle.whole.proofs.Linear.{and_true}
 use Rattle.whole.proofs.Tests.{and_yes}
 use Rattle.text.specs.Decimal.{is_digit_rule, all_digits_rule, digits_of, read_from_rule, read}
@@ -17,28 +18,33 @@ use Rattle.text.specs.Put.{Put}
 use Rattle.text.proofs.Digits.{one_digit, more_digits, by_tenths, read-digits}
 use Rattle.text.proofs.Puts.{put_part}
 
+-- a test of every byte, as the library says it
+pub digits_listed : (s : List ℕ) → list_all is_digit_rule s ≡ all_digits_rule s
+unfolding all_digits_rule
+digits_listed [] = refl
+digits_listed (b ∷ s) = ap (λ (t : Bool). is_digit_rule b && t) (digits_listed s)
+
 -- ---- one byte more
 
 module _ (s : List ℕ) (i : ℕ) (h : i < length s) where
-  pub digits-next : all_digits_rule (drop i s) ≡ is_digit_rule (get_or s i 0) && all_digits_rule (drop (i + 1) s)
-  unfolding all_digits_rule
-  digits-next = rw (add-one, drop-cons s i 0)
-
   pub read_next : (n : ℕ) → read_from_rule n (drop i s) ≡ read_from_rule (10 * n + (get_or s i 0 - 48)) (drop (i + 1) s)
   unfolding read_from_rule
   read_next n = rw (add-one, drop-cons s i 0)
 
 -- no byte left
-pub digits-none : (s : List ℕ) → all_digits_rule (drop (length s) s) ≡ true
-unfolding all_digits_rule
-digits-none s = rw drop-length
-
 pub read_none : (n : ℕ) (s : List ℕ) → read_from_rule n (drop (length s) s) ≡ n
 unfolding read_from_rule
 read_none n s = rw drop-length
 
 pub digit_in : (b : ℕ) → is_digit_rule b ≡ true → (48 ≤ b) × (b ≤ 57)
 digit_in b h = let p = and_true (leb 48 b) (leb b 57) h in (leb-true 48 b p.0, leb-true b 57 p.1)
+
+-- each byte is one, where all are
+pub digit_at : (s : List ℕ) (i : ℕ) → i < length s → all_digits_rule s ≡ true → (48 ≤ get_or s i 0) × (get_or s i 0 ≤ 57)
+unfolding all_digits_rule
+digit_at [] i h e = absurd (omega arith)
+digit_at (b ∷ s) zero h e = digit_in b (and_true (is_digit_rule b) (all_digits_rule s) e).0
+digit_at (b ∷ s) (suc i) h e = digit_at s i (omega arith) (and_true (is_digit_rule b) (all_digits_rule s) e).1
 
 -- a digit more than i of them: it fits as long as there are no more than 19
 pub next_below : (n d i : ℕ) → n < 10 ^ i → d ≤ 9 → 10 * n + d < 10 ^ (i + 1)

@@ -1,58 +1,49 @@
-// Numbers written as eight bytes, the lowest first, in two's complement.
-ghost use Rattle.std.specs.Prelude.{◌≡◌, ◌+◌, ◌*◌, ◌<◌, ◌≤◌, length};
-ghost use Rattle.std.specs.Int.{w64};
-ghost use Rattle.std.proofs.Common.{of_z};
+// Numbers written as eight bytes, the lowest first, in two's complement. A room and a place stay two parameters, as in decimal.rt.
+ghost use Rattle.std.specs.Prelude.{◌≡◌, ◌+◌, ◌*◌, ◌≤◌, ℕ, length, map};
+ghost use Rattle.std.specs.Int.{w64, cast_unsigned};
 ghost use Rattle.text.specs.Bytes.{pasted, words_of, bytes_of_all};
-ghost use Rattle.text.specs.Code.{put_pair, put_quad_rule, put_bits_rule};
 
-// The bits of z.
-fn unsigned(z: i64) -> u64
-    ensures { result ≡ of_z w64 z }
-{
-    if z < 0 {
-        let n = -1 - z;
-        return 18446744073709551615 - (n as u64);
+// A number of eight bytes.
+trait Eight: Copy {
+    ghost bits: { Self → ℕ };
+
+    // Its bits, as a number without a sign.
+    fn bits(self) -> u64
+        ensures { result ≡ bits self };
+}
+
+impl Eight for u64 {
+    ghost bits = { λ w. w };
+
+    fn bits(self) -> u64 {
+        self
     }
-    z as u64
 }
 
-fn put_pair(d: &mut [u8], at: usize, w: u64)
-    requires { (at + 2 ≤ length d.old) × (w < 65536) }
-    ensures { d.new ≡ put_pair d.old at w }
+impl Eight for i64 {
+    ghost bits = { cast_unsigned w64 };
+
+    fn bits(self) -> u64 {
+        self.cast_unsigned()
+    }
+}
+
+// The bytes of the numbers ns, from at on.
+fn put_all<T: Eight>(d: &mut [u8], at: usize, ns: &[T])
+    requires { at + 8 * length ns.now ≤ length d.old }
+    ensures { d.new ≡ pasted d.old at (bytes_of_all (map T.bits ns.now)) }
 {
-    d[at] = (w % 256) as u8;
-    d[at + 1] = (w / 256) as u8;
+    for (j, n) in ns.iter().enumerate() {
+        copy(d, at + 8 * j, &n.bits().to_le_bytes());
+    }
 }
 
-#[tactic(auto, unfolding(crate::specs::Code::put_quad_rule))]
-fn put_quad(d: &mut [u8], at: usize, w: u64)
-    requires { (at + 4 ≤ length d.old) × (w < 4294967296) }
-    ensures { d.new ≡ put_quad_rule d.old at w }
-{
-    put_pair(d, at, w % 65536);
-    put_pair(d, at + 2, w / 65536);
-}
-
-// The eight bytes of w, from at on.
-#[tactic(auto, unfolding(crate::specs::Code::put_bits_rule))]
-fn put_bits(d: &mut [u8], at: usize, w: u64)
-    requires { at + 8 ≤ length d.old }
-    ensures { d.new ≡ put_bits_rule d.old at w }
-{
-    put_quad(d, at, w % 4294967296);
-    put_quad(d, at + 4, w / 4294967296);
-}
-
-// The bytes of the words ws, from at on.
+// The bytes of the words ws, from at on. This one and the next are what docs/CALLS.md names, so both stay beside `put_all`.
 pub fn put_words(d: &mut [u8], at: usize, ws: &[u64])
     requires { at + 8 * length ws.now ≤ length d.old }
     ensures { d.new ≡ pasted d.old at (bytes_of_all ws.now) }
 {
-    let mut j: usize = 0;
-    while j < ws.len() {
-        put_bits(d, at + 8 * j, ws[j]);
-        j += 1;
-    }
+    put_all(d, at, ws)
 }
 
 // The bytes of the numbers zs, from at on.
@@ -60,22 +51,14 @@ pub fn put_numbers(d: &mut [u8], at: usize, zs: &[i64])
     requires { at + 8 * length zs.now ≤ length d.old }
     ensures { d.new ≡ pasted d.old at (bytes_of_all (words_of zs.now)) }
 {
-    let mut j: usize = 0;
-    while j < zs.len() {
-        let z = zs[j];
-        put_bits(d, at + 8 * j, unsigned(z));
-        j += 1;
-    }
+    put_all(d, at, zs)
 }
 
 // The bytes of s, from at on.
+#[tactic(auto, using(crate::proofs::Paste::part_pasted))]
 pub fn copy(d: &mut [u8], at: usize, s: &[u8])
     requires { at + length s.now ≤ length d.old }
     ensures { d.new ≡ pasted d.old at s.now }
 {
-    let mut j: usize = 0;
-    while j < s.len() {
-        d[at + j] = s[j];
-        j += 1;
-    }
+    d[at..at + s.len()].copy_from_slice(s);
 }

@@ -1,43 +1,38 @@
--- `text::decimal::put_natural` meets its contract. Assumes nothing.
-use Rattle.std.proofs.Common.{◌≡◌, ◌+◌, ◌-◌, ◌/◌, ◌%◌, ◌<◌, ◌≤◌, length, set, ℕ, List, sym, ap, ◌∙◌, arith, length-set}
+-- `text::decimal::put_natural` meets its contract: the digits left to be put are as many as places. Assumes nothing.
+use Rattle.std.proofs.Common.{◌≡◌, ◌+◌, ◌-◌, ◌/◌, ◌%◌, ◌<◌, ◌≤◌, length, set, ℕ, List, suc, sym, ap, ◌∙◌, arith}
 use Rattle.text.specs.Bytes.{pasted}
 use Rattle.text.specs.Decimal.{digits_of}
-use Rattle.text.proofs.Digits.{some, length_more, more_digits, one_digit}
-use Rattle.text.proofs.Puts.{put_one, pasted-before}
+use Rattle.text.proofs.Digits.{lowest, lowest_long, lowest_all}
+use Rattle.text.proofs.Paste.{pasted-none}
+use Rattle.text.proofs.Puts.{pasted-before}
 use Rattle.text.proofs.decimal.put_natural.Goals as goal
 
 -- the last digit, where it belongs, leaves those before it to be put
-digit-put : (room : List ℕ) (at rest i : ℕ) → 10 ≤ rest → i ≡ at + length (digits_of (rest / 10)) → at + length (digits_of (rest / 10)) < length room
-    → pasted (set room i (48 + rest % 10)) at (digits_of (rest / 10)) ≡ pasted room at (digits_of rest)
-digit-put room at rest i t e h =
-    ap (λ (k : ℕ). pasted (set room k (48 + rest % 10)) at (digits_of (rest / 10))) e
-    ∙ pasted-before room at (digits_of (rest / 10)) (48 + rest % 10) h
-    ∙ ap (pasted room at) (sym (more_digits rest t))
+digit-put : (room : List ℕ) (at i rest : ℕ) → at < i → i ≤ length room
+    → pasted (set room (i - 1) (48 + rest % 10)) at (lowest (i - 1 - at) (rest / 10)) ≡ pasted room at (lowest (i - at) rest)
+unfolding lowest
+digit-put room at i rest h k =
+    let ds = lowest (i - 1 - at) (rest / 10) in
+    let e : i - 1 ≡ at + length ds = omega (arith, lowest_long (i - 1 - at) (rest / 10)) in
+    let f : i - at ≡ suc (i - 1 - at) = omega arith in
+    ap (λ (j : ℕ). pasted (set room j (48 + rest % 10)) at ds) e
+    ∙ pasted-before room at ds (48 + rest % 10) (omega arith)
+    ∙ ap (λ (j : ℕ). pasted room at (lowest j rest)) (sym f)
 
-pub overflow_sub-i : goal.overflow_sub-i
-overflow_sub-i c = omega (arith, c.loop-rest.invariant.0, some c.loop-rest.rest)
+pub loop-i-init : goal.loop-i-init
+loop-i-init c =
+    let e : c.args.at + c.digits.result - c.args.at ≡ length (digits_of c.args.n) = omega arith in
+    ap (λ (k : ℕ). pasted c.args.room.now c.args.at (lowest k c.args.n)) e ∙ ap (pasted c.args.room.now c.args.at) (lowest_all c.args.n)
 
-pub bounds-room-i : goal.bounds-room-i
-bounds-room-i c = omega (arith, c.loop-rest.invariant.0, some c.loop-rest.rest, c.loop-rest.invariant.1, c.loop-rest.invariant.2, c.loop-rest.invariant.4)
-
-pub loop-rest-preserved : goal.loop-rest-preserved
-loop-rest-preserved c =
-    let l = c.loop-rest in
-    let t = c.loop-rest-test.true in
-    let e : l.i - 1 ≡ c.args.at + length (digits_of (l.rest / 10)) = omega (arith, l.invariant.0, length_more l.rest t) in
-    let h : c.args.at + length (digits_of (l.rest / 10)) < length l.room = omega (arith, l.invariant.0, length_more l.rest t, l.invariant.1, l.invariant.2, l.invariant.4) in
-    (e, omega (arith, l.invariant.1), l.invariant.2, digit-put l.room c.args.at l.rest (l.i - 1) t e h ∙ l.invariant.3, simp length-set l.invariant.4)
-
-pub bounds-room-at : goal.bounds-room-at
-bounds-room-at c = omega (arith, c.loop-rest.invariant.0, some c.loop-rest.rest, c.loop-rest.invariant.1, c.loop-rest.invariant.2, c.loop-rest.invariant.4)
+pub loop-i-preserved : goal.loop-i-preserved
+loop-i-preserved c = let l = c.loop-i in digit-put l.room c.args.at l.i l.rest (omega arith) (omega arith) ∙ l.invariant
 
 pub returns : goal.returns
+unfolding lowest
 returns c =
-    let l = c.loop-rest in
-    let at = c.args.at in
-    let e = one_digit l.rest (omega arith) in
-    let h : at < length l.room = omega (arith, l.invariant.0, some l.rest, l.invariant.1, l.invariant.2, l.invariant.4) in
+    let l = c.loop-i in
+    let e : 0 ≡ l.i - c.args.at = omega arith in
     record {
-      bytes = (put_one l.room at (48 + l.rest) h).bytes ∙ ap (pasted l.room at) (sym e) ∙ l.invariant.3;
-      place = ap (λ (n : ℕ). at + n) c.digits.ensures;
+      bytes = sym (pasted-none l.room c.args.at) ∙ ap (λ (k : ℕ). pasted l.room c.args.at (lowest k l.rest)) e ∙ l.invariant;
+      place = ap (λ (n : ℕ). c.args.at + n) c.digits.ensures;
     }

@@ -1,18 +1,17 @@
--- `text::lines::line_end` meets its contract: from the place reached on the line has as many bytes as are left of it. Assumes nothing.
-use Rattle.std.proofs.Common.{◌≡◌, length, drop, ℕ, ap, arith}
+-- `text::lines::line_end` meets its contract. Assumes nothing.
+use Rattle.std.proofs.Common.{◌≡◌, ◌+◌, ◌-◌, length, take, drop, ℕ, List, ap, ◌∙◌, sym, rules}
+use Rattle.std.proofs.lemmas.Iterator.{YieldsList-from_slice, IsFirst-from_position, index_from_first}
+use Rattle.std.proofs.lemmas.List.{take_rest}
+use borrow.Author.Tests.{tests}
 use Rattle.text.specs.Lines.{first_line}
-use Rattle.text.proofs.LineFeeds.{ends, goes_on, ends_last}
+use Rattle.text.proofs.LineFeeds.{none, hit, miss}
 use Rattle.text.proofs.lines.line_end.Goals as goal
-
-pub returns-then-s-i-eq10 : goal.returns-then-s-i-eq10
-returns-then-s-i-eq10 c = omega (arith, c.loop-i.invariant.1, ends c.args.s.now c.loop-i.i c.loop-i-test.true c.if-s-i-eq10.true)
-
-pub loop-i-preserved : goal.loop-i-preserved
-loop-i-preserved c = (omega arith, omega (arith, c.loop-i.invariant.1, goes_on c.args.s.now c.loop-i.i c.loop-i-test.true c.if-s-i-eq10.false))
 
 pub returns : goal.returns
 returns c =
     let s = c.args.s.now in
-    let l = c.loop-i in
-    let e : l.i ≡ length s = omega (arith, l.invariant.0, c.loop-i-test.false) in
-    omega (arith, l.invariant.1, e, ap (λ (k : ℕ). length (first_line (drop k s))) e, ends_last s)
+    let at = c.args.at in
+    let rest = take (length s - at) (drop at s) in
+    let first = IsFirst-from_position _ _ c.position.result (λ (b : ℕ). b ≡ 10) (λ (b : ℕ). ¬ (b ≡ 10)) c.position.ensures.ran (YieldsList-from_slice rest cc) (λ x q k. search (rules, tests)) (λ x q k. search (rules, tests)) in
+    let e = index_from_first (λ (bs : List ℕ). length (first_line bs)) (λ (b : ℕ). b ≡ 10) (λ (b : ℕ). ¬ (b ≡ 10)) none hit miss rest c.position.result first in
+    ap (λ (k : ℕ). at + k) (c.unwrap_or.ensures ∙ sym e ∙ ap (λ (bs : List ℕ). length (first_line bs)) (take_rest s at))

@@ -1,32 +1,24 @@
--- `text::lines::line_of` meets its contract: from the place reached on, as many lines are left to pass as turns are. Assumes nothing.
-use Rattle.std.proofs.Common.{◌≡◌, ◌+◌, ◌-◌, drop, suc, ℕ, List, sym, ap, ◌∙◌, arith}
-use Rattle.text.specs.Lines.{line_of}
-use Rattle.text.proofs.LineFeeds.{end-most, line-next, line_first, part_is}
+-- `text::lines::line_of` meets its contract. Assumes nothing.
+use Rattle.std.proofs.Common.{◌≡◌, ℕ, List, [], Option, Some, None, unwrap_or, refl, ap, ◌∙◌, rules, Bor}
+use Rattle.std.specs.Option.{option_map}
+use Rattle.std.specs.List.{slice_split}
+use Rattle.std.proofs.lemmas.Option.{unwrap_or-slice_get}
+use Rattle.std.proofs.lemmas.Iterator.Consumers.{nth_from_yields_List}
+use Rattle.std.proofs.lemmas.Iterator.Splits.{YieldsList-from_slice_split}
+use borrow.Author.Tests.{tests}
+use lib.Dec.{eqb}
+use Rattle.text.proofs.LineFeeds.{cut_lines}
 use Rattle.text.proofs.lines.line_of.Goals as goal
 
-pub loop-i-preserved : goal.loop-i-preserved
-loop-i-preserved c =
-    let a = c.args in
-    let l = c.loop-i in
-    let n = c.next_line-at in
-    let t = c.loop-i-test.true in
-    let e : a.k - l.i ≡ suc (a.k - (l.i + 1)) = omega (arith, t) in
-    let f : line_of (drop n.result a.s.now) (a.k - (l.i + 1)) ≡ line_of (drop l.at a.s.now) (a.k - l.i) =
-    ap (λ (x : List ℕ). line_of x (a.k - (l.i + 1))) n.ensures.1 ∙ sym (line-next (drop l.at a.s.now) (a.k - (l.i + 1))) ∙ ap (line_of (drop l.at a.s.now)) (sym e) in
-    (n.ensures.0, omega (arith, t), f ∙ l.invariant.2)
-
-pub slice_bounds-result-end : goal.slice_bounds-result-end
-slice_bounds-result-end c =
-    let m = end-most c.args.s.now c.loop-i.at c.line_end-end.result c.loop-i.invariant.0 c.line_end-end.ensures in
-    omega (arith, m)
+-- what stands behind a reference that may be missing
+lent : (r : Option (Bor (List ℕ))) (d : Bor (List ℕ)) → (unwrap_or r d).now ≡ unwrap_or (option_map (λ (x : Bor (List ℕ)). x.now) r) d.now
+lent None d = refl
+lent (Some x) d = refl
 
 pub returns : goal.returns
 returns c =
-    let a = c.args in
-    let l = c.loop-i in
-    let e = c.line_end-end in
-    let z : 0 ≡ a.k - l.i = omega (arith, l.invariant.1, c.loop-i-test.false) in
-    part_is a.s.now l.at e.result l.invariant.0 e.ensures
-    ∙ sym (line_first (drop l.at a.s.now))
-    ∙ ap (line_of (drop l.at a.s.now)) z
-    ∙ l.invariant.2
+    let s = c.args.s.now in
+    let n =
+    nth_from_yields_List c.nth.result _ _ c.nth.ensures.ran
+    (YieldsList-from_slice_split _ (λ (b : ℕ). eqb b 10) s c.split.ensures.rest c.split.ensures.done c.split.ensures.closure (λ x b q k. search (rules, tests))) in
+    ap (λ (x : Bor (List ℕ)). x.now) c.unwrap_or.ensures ∙ lent c.nth.result _ ∙ ap (λ (o : Option (List ℕ)). unwrap_or o []) n ∙ unwrap_or-slice_get (slice_split (λ (b : ℕ). eqb b 10) s) _ [] ∙ cut_lines s c.args.k
