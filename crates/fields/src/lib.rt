@@ -44,55 +44,63 @@ pub struct Pass {
 }
 
 // A record of each kind, from a row of numbers.
-#[tactic(auto, unfolding(crate::specs::Records::station_from_rule))]
-pub fn station_from(row: &[i64; 8]) -> Station
-    ensures { result ≡ station_from_rule row.now }
-{
-    Station {
-        id: row[0],
-        x: row[1],
-        y: row[2],
-        z: row[3],
+impl From<[i64; 8]> for Station {
+    ghost from_gives = { λ row r. r ≡ station_from_rule row };
+
+    #[tactic(auto, unfolding(crate::specs::Records::station_from_rule))]
+    fn from(row: [i64; 8]) -> Station {
+        Station {
+            id: row[0],
+            x: row[1],
+            y: row[2],
+            z: row[3],
+        }
     }
 }
 
-#[tactic(auto, unfolding(crate::specs::Records::source_from_rule))]
-pub fn source_from(row: &[i64; 8]) -> Source
-    ensures { result ≡ source_from_rule row.now }
-{
-    Source {
-        id: row[0],
-        right_ascension: row[1],
-        declination: row[2],
+impl From<[i64; 8]> for Source {
+    ghost from_gives = { λ row r. r ≡ source_from_rule row };
+
+    #[tactic(auto, unfolding(crate::specs::Records::source_from_rule))]
+    fn from(row: [i64; 8]) -> Source {
+        Source {
+            id: row[0],
+            right_ascension: row[1],
+            declination: row[2],
+        }
     }
 }
 
-#[tactic(auto, unfolding(crate::specs::Records::day_from_rule))]
-pub fn day_from(row: &[i64; 8]) -> Day
-    ensures { result ≡ day_from_rule row.now }
-{
-    Day {
-        mjd: row[0],
-        x: row[1],
-        y: row[2],
-        ut1_utc: row[3],
-        tai_utc: row[4],
-        mark: row[5],
+impl From<[i64; 8]> for Day {
+    ghost from_gives = { λ row r. r ≡ day_from_rule row };
+
+    #[tactic(auto, unfolding(crate::specs::Records::day_from_rule))]
+    fn from(row: [i64; 8]) -> Day {
+        Day {
+            mjd: row[0],
+            x: row[1],
+            y: row[2],
+            ut1_utc: row[3],
+            tai_utc: row[4],
+            mark: row[5],
+        }
     }
 }
 
-#[tactic(auto, unfolding(crate::specs::Records::pass_from_rule))]
-pub fn pass_from(row: &[i64; 8]) -> Pass
-    ensures { result ≡ pass_from_rule row.now }
-{
-    Pass {
-        station1: row[0],
-        station2: row[1],
-        source: row[2],
-        mjd: row[3],
-        ms: row[4],
-        step: row[5],
-        samples: row[6],
-        tolerance: row[7],
+impl From<[i64; 8]> for Pass {
+    ghost from_gives = { λ row r. r ≡ pass_from_rule row };
+
+    #[tactic(auto, unfolding(crate::specs::Records::pass_from_rule))]
+    fn from(row: [i64; 8]) -> Pass {
+        Pass {
+            station1: row[0],
+            station2: row[1],
+            source: row[2],
+            mjd: row[3],
+            ms: row[4],
+            step: row[5],
+            samples: row[6],
+            tolerance: row[7],
+        }
     }
 }

@@ -5,7 +5,7 @@ ghost use Rattle.fields.specs.Ranges.{inside};
 use whole::sign::in_range;
 
 // The values that a field may have, both ends taken in.
-#[derive(Drop)]
+#[derive(Clone, Copy)]
 pub struct Range {
     pub low: i64,
     pub high: i64,
@@ -70,7 +70,7 @@ pub const TOLERANCE: Range = Range {
     high: 1_000_000,
 };
 
-// Whether a field, or an argument of a call, is in the range of that field.
+// Whether a field, or an argument of a call, is in the range of that field. A function, as its definition and the crates above have it: a method would read no plainer.
 pub fn inside(r: Range, z: i64) -> bool
     ensures { result ≡ inside r z }
 {

@@ -4,3 +4,5 @@ pub mod Numbers
 pub mod Sound
 pub mod Accepted
 pub mod TwoTables
+pub mod Refused
+pub mod Orders

@@ -47,7 +47,7 @@ of_kind_lem test (l ∷ ls) k n h = let w = and_true (test l) (all_of test ls) h
     by true a r = a
     by false a r = r
 
-any_kind : (test : Layout → Bool) (t : Table) (p k : ℕ) → test no_layout ≡ true → all_in test t ≡ true → test (layout_in_rule t p k) ≡ true
+pub any_kind : (test : Layout → Bool) (t : Table) (p k : ℕ) → test no_layout ≡ true → all_in test t ≡ true → test (layout_in_rule t p k) ≡ true
 unfolding layout_in_rule
 any_kind test t p k n h = of_kind_lem test (layouts_in t p) k n (in_place test t p h)
 

@@ -1,21 +1,19 @@
 -- What a contents table that is right says, and the same loops over bytes as over records. Assumes nothing.
-use mathlib.Core.Path.{◌≡◌, refl, sym, ap, ap₂, ◌∙◌}
+use mathlib.Core.Path.{◌≡◌, sym, ap, ap₂, ◌∙◌}
 use Prim.Native.Nat.{ℕ, zero, suc, ◌+◌, ◌-◌, ◌*◌, ◌≤◌, ◌<◌}
 use native.Mathlib.Nat.{add-zero, add-suc, mul-le-mul_left}
 use native.Mathlib.Numerals.{add-one-le}
 use native.Mathlib.Omega.{arith}
-use mathlib.Core.Bool.{true, ◌&&◌}
-use mathlib.Core.List.{List, ◌++◌, map}
-use lib.ListN.{length, get_or, length-map, replicate, get_or-append, get_or-map}
+use mathlib.Core.Bool.{true}
+use mathlib.Core.List.{List, ◌++◌}
+use lib.ListN.{length, get_or, replicate, get_or-append}
 use lib.Seq.{get_or-take}
-use lib.IntN.{ℤ, pos}
-use lib.Signed.{le_z}
 use lib.Dec.{leb}
 use borrow.Author.Tests.{leb-true, ltb-true, eqb-true}
 use Rattle.whole.specs.Each.{first_not}
 use Rattle.text.specs.Words.{number_at_rule}
 use Rattle.fields.specs.declared.ranges.Range.{Range}
-use Rattle.fields.specs.Ranges.{range}
+use Rattle.fields.specs.Ranges.{range, inside}
 use Rattle.sections.specs.Layouts.{Table, stands_in}
 use Rattle.sections.specs.Code.{padded, shape_of, inside_by, record_by, step_by}
 use Rattle.sections.specs.File.{present, layout_of, size_of, count_of_rule, kind_of, first_byte, start_of, sections_right_rule, kind_right_rule, offset_right_rule, count_right_rule, length_right_rule, kinds_right, counts_right, offsets_right, contents_right, record_byte_rule, field_at_rule, field_right, record_right, steps, step_right_rule}
@@ -93,31 +91,24 @@ module _ {t : Table} (g : Good t) where
 
   -- ---- the ranges of a layout as the code holds them
 
-  end_at : (f : Range → ℤ) → f (range 0 0) ≡ pos 0 → (rs : List Range) (k : ℕ) → k < length rs → length rs ≤ 8 → get_or (padded 8 (map f rs)) k (pos 0) ≡ f (get_or rs k (range 0 0))
-  end_at f z rs k h m =
-      let e = length-map rs f in
-      get_or-take 8 (map f rs ++ replicate 8 (pos 0)) k (pos 0) (omega arith)
-      ∙ get_or-append (map f rs) (replicate 8 (pos 0)) (pos 0) k (omega arith)
-      ∙ rw z at (get_or-map f rs k (range 0 0))
+  range_at : (rs : List Range) (k : ℕ) → k < length rs → length rs ≤ 8 → get_or (padded 8 rs) k (range 0 0) ≡ get_or rs k (range 0 0)
+  range_at rs k h m =
+      get_or-take 8 (rs ++ replicate 8 (range 0 0)) k (range 0 0) (omega arith)
+      ∙ get_or-append rs (replicate 8 (range 0 0)) (range 0 0) k h
 
   module _ (s : List ℕ) (p : ℕ) where
-    inside_is : (i k : ℕ) → k < size_of t s p
-        → inside_by s (record_byte_rule t s p i) (shape_of (layout_of t s p)).low (shape_of (layout_of t s p)).high k ≡ field_right t s p i k
+    inside_is : (i k : ℕ) → k < size_of t s p → inside_by s (record_byte_rule t s p i) (shape_of (layout_of t s p)).fields k ≡ field_right t s p i k
     unfolding shape_of field_right
-    inside_is i k l =
-        let m = size_small g p (kind_of s p) in
-        let a = end_at (λ (r : Range). r.low) refl (layout_of t s p).fields k l m in
-        let b = end_at (λ (r : Range). r.high) refl (layout_of t s p).fields k l m in
-        ap₂ (λ (x y : ℤ). le_z x (field_at_rule t s p i k) && le_z (field_at_rule t s p i k) y) a b
+    inside_is i k l = ap (λ (r : Range). inside r (field_at_rule t s p i k)) (range_at (layout_of t s p).fields k l (size_small g p (kind_of s p)))
 
-    record_is : (i : ℕ) → record_by s (first_byte s p) (size_of t s p) (shape_of (layout_of t s p)).low (shape_of (layout_of t s p)).high i ≡ record_right t s p i
-    unfolding record_byte_rule record_right
+    pub record_is : (i : ℕ) → record_by s (first_byte s p) (shape_of (layout_of t s p)) i ≡ record_right t s p i
+    unfolding shape_of record_byte_rule record_right
     record_is i = all_same (size_of t s p) _ (field_right t s p i) (inside_is i)
 
-    pub records-same : (n : ℕ) → first_not n (record_by s (first_byte s p) (size_of t s p) (shape_of (layout_of t s p)).low (shape_of (layout_of t s p)).high) ≡ first_not n (record_right t s p)
+    pub records-same : (n : ℕ) → first_not n (record_by s (first_byte s p) (shape_of (layout_of t s p))) ≡ first_not n (record_right t s p)
     records-same n = first-same n _ (record_right t s p) (λ i l. record_is i)
 
-    pub fields-same : (i : ℕ) → first_not (size_of t s p) (inside_by s (record_byte_rule t s p i) (shape_of (layout_of t s p)).low (shape_of (layout_of t s p)).high) ≡ first_not (size_of t s p) (field_right t s p i)
+    pub fields-same : (i : ℕ) → first_not (size_of t s p) (inside_by s (record_byte_rule t s p i) (shape_of (layout_of t s p)).fields) ≡ first_not (size_of t s p) (field_right t s p i)
     fields-same i = first-same (size_of t s p) _ (field_right t s p i) (inside_is i)
 
     step_is : (o i : ℕ) → step_by s (first_byte s p) (size_of t s p) o i ≡ step_right_rule t s o p i

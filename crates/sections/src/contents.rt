@@ -1,8 +1,8 @@
 // The contents table: its thirteen words in the order in which they stand, then the file's length.
-ghost use Rattle.std.specs.Prelude.{◌≡◌, true, suc, ◌+◌, ◌*◌, ◌<◌, ◌≤◌, length};
+ghost use Rattle.std.specs.Prelude.{◌≡◌, true, suc, ◌+◌, ◌*◌, ◌<◌, ◌≤◌, length, IfOk, IfErr};
 ghost use Rattle.whole.specs.Each.{first_not};
-ghost use Rattle.sections.specs.Code.{shape_of};
-ghost use Rattle.sections.specs.File.{present, between, layout_of, sections_right_rule, kind_right_rule, offset_right_rule, count_right_rule, length_right_rule, start_of};
+ghost use Rattle.sections.specs.Code.{shape_of, word_in};
+ghost use Rattle.sections.specs.File.{present, layout_of, kind_of, first_byte, count_of_rule, sections_right_rule, kind_right_rule, offset_right_rule, count_right_rule, length_right_rule, start_of, contents_right, record_byte_rule, size_of};
 ghost use Rattle.sections.specs.Table.{entry_right, wrong_word_rule};
 ghost use Rattle.sections.specs.Layouts.{places};
 
@@ -16,16 +16,7 @@ fn present(s: &[u8], j: usize) -> bool
     8 * j + 8 <= s.len()
 }
 
-fn between(low: usize, high: usize, n: usize) -> bool
-    ensures { result ≡ between low high n }
-{
-    if n < low {
-        return false;
-    }
-    n <= high
-}
-
-// The layout of the records in place p.
+// The layout of the records in place p, also in a file that is not right.
 pub fn layout_of(s: &[u8], p: usize) -> Shape
     requires { (p < 4) × (8 * (3 * p + 1) + 8 ≤ length s.now) }
     ensures { result ≡ shape_of (layout_of places s.now p) }
@@ -33,36 +24,29 @@ pub fn layout_of(s: &[u8], p: usize) -> Shape
     layout_in(p, word_at(s, 3 * p + 1))
 }
 
+#[tactic(auto, unfolding(crate::specs::File::sections_right_rule))]
 fn sections_right(s: &[u8]) -> bool
     ensures { result ≡ sections_right_rule s.now }
 {
-    if !present(s, 0) {
-        return false;
-    }
-    word_at(s, 0) == 4
+    present(s, 0) && word_at(s, 0) == 4
 }
 
 fn kind_right(s: &[u8], p: usize) -> bool
     requires { p < 4 }
     ensures { result ≡ kind_right_rule places s.now p }
 {
-    if !present(s, 3 * p + 1) {
-        return false;
-    }
-    let l = layout_of(s, p);
-    0 < l.size
+    present(s, 3 * p + 1) && 0 < layout_of(s, p).size
 }
 
+#[tactic(auto, unfolding(crate::specs::File::offset_right_rule))]
 fn offset_right(s: &[u8], p: usize, start: usize) -> bool
     requires { (p < 4) × (start ≡ start_of places s.now p) }
     ensures { result ≡ offset_right_rule places s.now p }
 {
-    if !present(s, 3 * p + 2) {
-        return false;
-    }
-    word_at(s, 3 * p + 2) == start
+    present(s, 3 * p + 2) && word_at(s, 3 * p + 2) == start
 }
 
+#[tactic(auto, unfolding(crate::specs::File::count_right_rule, crate::specs::Code::shape_of))]
 fn count_right(s: &[u8], p: usize) -> bool
     requires { p < 4 }
     ensures { result ≡ count_right_rule places s.now p }
@@ -71,64 +55,100 @@ fn count_right(s: &[u8], p: usize) -> bool
         return false;
     }
     let l = layout_of(s, p);
-    between(l.fewest, l.most, word_at(s, 3 * p + 3))
+    (l.fewest..=l.most).contains(&word_at(s, 3 * p + 3))
 }
 
-// The first wrong of the three words of place p, whose body is to start at start: 0, 1 or 2; 3 where none is wrong.
-fn wrong_in_entry(s: &[u8], p: usize, start: usize) -> usize
-    requires { (p < 4) × (start ≡ start_of places s.now p) }
-    ensures { result ≡ first_not 3 (entry_right places s.now p) }
-{
-    if !kind_right(s, p) {
-        return 0;
-    }
-    if !offset_right(s, p, start) {
-        return 1;
-    }
-    if !count_right(s, p) {
-        return 2;
-    }
-    3
-}
-
-// Where the body of place p ends, if it starts at start.
-fn end_of(s: &[u8], p: usize, start: usize) -> usize
-    requires { (p < 4) × (start ≡ start_of places s.now p) × (start ≤ 65536) × (count_right_rule places s.now p ≡ true) }
-    ensures { (result ≡ start_of places s.now (suc p)) × (result ≤ start + 16384) }
-{
-    let l = layout_of(s, p);
-    start + 8 * (l.size * word_at(s, 3 * p + 3))
-}
-
+#[tactic(auto, unfolding(crate::specs::File::length_right_rule))]
 fn length_right(s: &[u8], end: usize) -> bool
     requires { end ≡ start_of places s.now 4 }
     ensures { result ≡ length_right_rule places s.now }
 {
-    if 65536 < s.len() {
-        return false;
-    }
-    s.len() == end
+    s.len() <= 65536 && s.len() == end
 }
 
-// The first wrong word of the contents table, 0 to 12; 13 where only the length is wrong, and 14 where nothing is.
-pub fn wrong_word(s: &[u8]) -> usize
-    ensures { result ≡ wrong_word_rule places s.now }
+// Where the body of place p ends, which is to start at start, or the first wrong word of its entry.
+fn entry_end(s: &[u8], p: usize, start: usize) -> Result<usize, usize>
+    requires { (p < 4) × (start ≡ start_of places s.now p) × (start ≤ 65536) }
+    ensures end { IfOk result (λ e. (first_not 3 (entry_right places s.now p) ≡ 3) × (e ≡ start_of places s.now (suc p)) × (e ≤ start + 16384)) }
+    ensures word { IfErr result (λ w. (first_not 3 (entry_right places s.now p) < 3) × (w ≡ 3 * p + 1 + first_not 3 (entry_right places s.now p))) }
 {
-    if !sections_right(s) {
-        return 0;
+    if !kind_right(s, p) {
+        return Err(3 * p + 1);
     }
-    let mut start: usize = 104;
-    let mut p: usize = 0;
-    while p < 4 {
-        let k = wrong_in_entry(s, p, start);
-        if k < 3 {
-            return 3 * p + 1 + k;
+    if !offset_right(s, p, start) {
+        return Err(3 * p + 2);
+    }
+    if !count_right(s, p) {
+        return Err(3 * p + 3);
+    }
+    let l = layout_of(s, p);
+    Ok(start + 8 * (l.size * word_at(s, 3 * p + 3)))
+}
+
+// A file whose contents table is right.
+#[derive(Clone, Copy)]
+pub struct Contents<'a> {
+    pub file: &'a [u8],
+    pub ghost right: { contents_right places file.now ≡ true },
+}
+
+impl<'a> Contents<'a> {
+    // The file, or the first wrong word of its contents table, 0 to 12; 13 where only its length is wrong.
+    pub fn read(file: &'a [u8]) -> Result<Contents<'a>, usize>
+        ensures word { word_in result ≡ wrong_word_rule places file.now }
+        ensures most { IfErr result (λ w. w < 14) }
+        ensures file { IfOk result (λ c. c.file.now ≡ file.now) }
+    {
+        if !sections_right(file) {
+            return Err(0);
         }
-        start = end_of(s, p, start);
-        p += 1;
+        let mut start: usize = 104;
+        for p in 0..4 {
+            start = entry_end(file, p, start)?;
+        }
+        if !length_right(file, start) {
+            return Err(13);
+        }
+        Ok(Contents { file })
     }
-    if !length_right(s, start) {
-        return 13;
+
+    // The kind of the records in place p.
+    pub fn kind(self, p: usize) -> usize
+        requires { p < 4 }
+        ensures { (result ≡ kind_of self.entry.file.now p) × (result ≤ 255) }
+    {
+        word_at(self.file, 3 * p + 1)
     }
-    14
+
+    // How many records stand in place p.
+    pub fn count(self, p: usize) -> usize
+        requires { p < 4 }
+        ensures { (result ≡ count_of_rule self.entry.file.now p) × (result ≤ 256) }
+    {
+        word_at(self.file, 3 * p + 3)
+    }
+
+    // The layout of the records in place p.
+    pub fn layout(self, p: usize) -> Shape
+        requires { p < 4 }
+        ensures { result ≡ shape_of (layout_of places self.entry.file.now p) }
+    {
+        layout_of(self.file, p)
+    }
+
+    // The byte at which place p starts.
+    pub fn first_byte(self, p: usize) -> usize
+        requires { p < 4 }
+        ensures { result ≡ first_byte self.entry.file.now p }
+    {
+        word_at(self.file, 3 * p + 2)
+    }
+
+    // The byte at which record i of place p starts.
+    pub fn record_byte(self, p: usize, i: usize) -> usize
+        requires { (p < 4) × (i < count_of_rule self.file.now p) }
+        ensures { (result ≡ record_byte_rule places self.entry.file.now p i) × (result + 8 * size_of places self.entry.file.now p ≤ length self.entry.file.now) }
+    {
+        self.first_byte(p) + 8 * (self.layout(p).size * i)
+    }
 }

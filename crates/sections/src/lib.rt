@@ -5,5 +5,6 @@ pub mod contents;
 pub mod layouts;
 pub mod order;
 pub mod ranges;
-pub mod records;
-pub mod refusal;
+mod session;
+
+pub use session::Session;

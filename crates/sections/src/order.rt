@@ -1,106 +1,54 @@
 // The order of ids and of days: the first pair of neighbours that do not keep it.
-ghost use Rattle.std.specs.Prelude.{◌≡◌, true, ◌+◌, ◌-◌, ◌*◌, ◌<◌, ◌≤◌, length, pos, ◌+ℤ◌};
-ghost use Rattle.std.specs.Int.Signed.{lt_z};
+// A search gives the count where nothing fails, as `first_not` says it: an Option would be compared with a count all the same.
+// Byte, size and count go one by one to the inner loops, as `step_by` takes them: a struct of them would be made for one call.
+ghost use Rattle.std.specs.Prelude.{◌≡◌, ◌+◌, ◌-◌, ◌*◌, ◌<◌, ◌≤◌, length};
 ghost use Rattle.whole.specs.Each.{first_not};
-ghost use Rattle.sections.specs.Code.{step_by};
-ghost use Rattle.whole.specs.Ranges.{eq_z};
-ghost use Rattle.sections.specs.File.{contents_right, count_of_rule, steps, step_right_rule, order_right_rule};
+ghost use Rattle.sections.specs.Code.{order_number, step_by};
+ghost use Rattle.sections.specs.File.{count_of_rule, step_right_rule, order_right_rule};
 ghost use Rattle.sections.specs.Layouts.{places};
 
-use crate::contents::layout_of;
-use text::words::{number_at, word_at};
+use crate::contents::Contents;
+use crate::layouts::Order;
+use text::words::number_at;
+use whole::below::first_failing;
 
-fn less(a: i64, b: i64) -> bool
-    ensures { result ≡ lt_z a b }
-{
-    a < b
-}
-
-// Whether b is the number after a.
-fn next(a: i64, b: i64) -> bool
-    ensures { result ≡ eq_z b (a +ℤ pos 1) }
-{
-    if b <= a {
-        return false;
-    }
-    b - 1 <= a
-}
-
-fn steps(o: u64, a: i64, b: i64) -> bool
-    ensures { result ≡ steps o a b }
-{
-    if o == 1 {
-        return less(a, b);
-    }
-    if o == 2 {
-        return next(a, b);
-    }
-    true
-}
-
-fn step_right(s: &[u8], at: usize, size: usize, o: u64, i: usize) -> bool
+fn step_right(s: &[u8], at: usize, size: usize, o: Order, i: usize) -> bool
     requires { (at + 8 * (size * (i + 1)) + 8 ≤ length s.now) × (i < 256) × (size ≤ 8) }
-    ensures { result ≡ step_by s.now at size o i }
+    ensures { result ≡ step_by s.now at size (order_number o) i }
 {
-    steps(
-        o,
+    o.allows(
         number_at(s, at + 8 * (size * i)),
         number_at(s, at + 8 * (size * (i + 1))),
     )
 }
 
 // The first of n steps between records of size numbers from byte at on that does not keep the order o, or n.
-fn first_step(s: &[u8], at: usize, n: usize, size: usize, o: u64) -> usize
+fn first_step(s: &[u8], at: usize, n: usize, size: usize, o: Order) -> usize
     requires { (at + 8 * (size * n) + 8 ≤ length s.now) × (n ≤ 256) × (size ≤ 8) }
-    ensures { result ≡ first_not n (step_by s.now at size o) }
+    ensures { result ≡ first_not n (step_by s.now at size (order_number o)) }
 {
-    let mut i: usize = 0;
-    while i < n {
-        if !step_right(s, at, size, o, i) {
-            return i;
-        }
-        i += 1;
-    }
-    n
+    first_failing(n, |i| step_right(s, at, size, o, i))
 }
 
 // The first record of place p behind which the next does not keep the order o, or the number of the last.
-pub fn wrong_step(s: &[u8], o: u64, p: usize) -> usize
-    requires { (contents_right places s.now ≡ true) × (p < 4) }
-    ensures { result ≡ first_not (count_of_rule s.now p - 1) (step_right_rule places s.now o p) }
+pub fn wrong_step(c: Contents<'_>, o: Order, p: usize) -> usize
+    requires { p < 4 }
+    ensures { result ≡ first_not (count_of_rule c.entry.file.now p - 1) (step_right_rule places c.entry.file.now (order_number o) p) }
 {
-    let l = layout_of(s, p);
-    first_step(
-        s,
-        word_at(s, 3 * p + 2),
-        word_at(s, 3 * p + 3) - 1,
-        l.size,
-        o,
-    )
+    first_step(c.file, c.first_byte(p), c.count(p) - 1, c.layout(p).size, o)
 }
 
-fn order_right(s: &[u8], o: u64, p: usize) -> bool
-    requires { (contents_right places s.now ≡ true) × (p < 4) }
-    ensures { result ≡ order_right_rule places s.now o p }
+#[tactic(auto, unfolding(crate::specs::File::order_right_rule))]
+fn order_right(c: Contents<'_>, o: Order, p: usize) -> bool
+    requires { p < 4 }
+    ensures { result ≡ order_right_rule places c.entry.file.now (order_number o) p }
 {
-    let l = layout_of(s, p);
-    if l.order != o {
-        return true;
-    }
-    wrong_step(s, o, p) == word_at(s, 3 * p + 3) - 1
+    c.layout(p).order != o || wrong_step(c, o, p) == c.count(p) - 1
 }
 
 // The first place that is to keep the order o and does not, or 4.
-pub fn wrong_order(s: &[u8], o: u64) -> usize
-    requires { contents_right places s.now ≡ true }
-    ensures { result ≡ first_not 4 (order_right_rule places s.now o) }
+pub fn wrong_order(c: Contents<'_>, o: Order) -> usize
+    ensures { result ≡ first_not 4 (order_right_rule places c.entry.file.now (order_number o)) }
 {
-    let mut p: usize = 0;
-    while p < 4 {
-        if !order_right(s, o, p) {
-            return p;
-        }
-        p += 1;
-    }
-    4
+    first_failing(4, |p| order_right(c, o, p))
 }

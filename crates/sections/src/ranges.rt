@@ -1,96 +1,54 @@
-// The ranges of the fields: the first field, record and place that is wrong.
-ghost use Rattle.std.specs.Prelude.{◌≡◌, true, ◌+◌, ◌*◌, ◌<◌, ◌≤◌, length};
+// The ranges of the fields: the first field, record and place that is wrong; where none is, the count, as in the file of the order.
+ghost use Rattle.std.specs.Prelude.{◌≡◌, ◌+◌, ◌*◌, ◌<◌, ◌≤◌, length};
 ghost use Rattle.whole.specs.Each.{first_not};
 ghost use Rattle.sections.specs.Code.{inside_by, record_by};
-ghost use Rattle.sections.specs.File.{contents_right, count_of_rule, record_right, section_right_rule};
+ghost use Rattle.sections.specs.File.{count_of_rule, record_right, section_right_rule};
 ghost use Rattle.sections.specs.Layouts.{places};
 
-use crate::contents::layout_of;
-use text::words::{number_at, word_at};
-use whole::sign::in_range;
+use crate::contents::Contents;
+use crate::layouts::Shape;
+use fields::ranges::inside;
+use text::words::number_at;
+use whole::below::first_failing;
 
-// Whether number k from byte at on is in its range.
-fn number_inside(s: &[u8], at: usize, low: &[i64; 8], high: &[i64; 8], k: usize) -> bool
-    requires { (at + 8 * k + 8 ≤ length s.now) × (k < 8) }
-    ensures { result ≡ inside_by s.now at low.now high.now k }
+// The first number of the record at byte at that is out of its range, or how many numbers it has.
+pub fn first_outside(s: &[u8], at: usize, l: &Shape) -> usize
+    requires { (at + 8 * l.now.size ≤ length s.now) × (l.now.size ≤ 8) }
+    ensures { result ≡ first_not l.now.size (inside_by s.now at l.now.fields) }
 {
-    in_range(number_at(s, at + 8 * k), low[k], high[k])
+    first_failing(l.size, |k| inside(l.fields[k], number_at(s, at + 8 * k)))
 }
 
-// The first of size numbers from byte at on that is out of its range, or size.
-pub fn first_outside(s: &[u8], at: usize, size: usize, low: &[i64; 8], high: &[i64; 8]) -> usize
-    requires { (at + 8 * size ≤ length s.now) × (size ≤ 8) }
-    ensures { result ≡ first_not size (inside_by s.now at low.now high.now) }
+// The first of n records from byte at on with a number out of its range, or n.
+#[tactic(auto, using(whole::proofs::Each::all_first))]
+fn first_record(s: &[u8], at: usize, n: usize, l: &Shape) -> usize
+    requires { (at + 8 * (l.now.size * n) ≤ length s.now) × (l.now.size ≤ 8) }
+    ensures { result ≡ first_not n (record_by s.now at l.now) }
 {
-    let mut k: usize = 0;
-    while k < size {
-        if !number_inside(s, at, low, high, k) {
-            return k;
-        }
-        k += 1;
-    }
-    size
-}
-
-// The first of n records of size numbers from byte at on with a number out of its range, or n.
-fn first_record(
-    s: &[u8],
-    at: usize,
-    n: usize,
-    size: usize,
-    low: &[i64; 8],
-    high: &[i64; 8],
-) -> usize
-    requires { (at + 8 * (size * n) ≤ length s.now) × (size ≤ 8) }
-    ensures { result ≡ first_not n (record_by s.now at size low.now high.now) }
-{
-    let mut i: usize = 0;
-    while i < n {
-        if first_outside(s, at + 8 * (size * i), size, low, high) < size {
-            return i;
-        }
-        i += 1;
-    }
-    n
+    first_failing(n, |i| {
+        first_outside(s, at + 8 * (l.size * i), l) == l.size
+    })
 }
 
 // The first record of place p with a field out of its range, or the number of its records.
-pub fn wrong_record(s: &[u8], p: usize) -> usize
-    requires { (contents_right places s.now ≡ true) × (p < 4) }
-    ensures { result ≡ first_not (count_of_rule s.now p) (record_right places s.now p) }
+pub fn wrong_record(c: Contents<'_>, p: usize) -> usize
+    requires { p < 4 }
+    ensures { result ≡ first_not (count_of_rule c.entry.file.now p) (record_right places c.entry.file.now p) }
 {
-    let l = layout_of(s, p);
-    let size = l.size;
-    let low = l.low;
-    let high = l.high;
-    first_record(
-        s,
-        word_at(s, 3 * p + 2),
-        word_at(s, 3 * p + 3),
-        size,
-        &low,
-        &high,
-    )
+    let l = c.layout(p);
+    first_record(c.file, c.first_byte(p), c.count(p), &l)
 }
 
-fn section_right(s: &[u8], p: usize) -> bool
-    requires { (contents_right places s.now ≡ true) × (p < 4) }
-    ensures { result ≡ section_right_rule places s.now p }
+fn section_right(c: Contents<'_>, p: usize) -> bool
+    requires { p < 4 }
+    ensures { result ≡ section_right_rule places c.entry.file.now p }
 {
-    wrong_record(s, p) == word_at(s, 3 * p + 3)
+    wrong_record(c, p) == c.count(p)
 }
 
 // The first place with a field out of its range, or 4.
-pub fn wrong_section(s: &[u8]) -> usize
-    requires { contents_right places s.now ≡ true }
-    ensures { result ≡ first_not 4 (section_right_rule places s.now) }
+pub fn wrong_section(c: Contents<'_>) -> usize
+    ensures { result ≡ first_not 4 (section_right_rule places c.entry.file.now) }
 {
-    let mut p: usize = 0;
-    while p < 4 {
-        if !section_right(s, p) {
-            return p;
-        }
-        p += 1;
-    }
-    4
+    first_failing(4, |p| section_right(c, p))
 }

@@ -21,8 +21,13 @@ use Rattle.sections.specs.Rows.{row_of}
 use Rattle.sections.proofs.Shapes.{today}
 use Rattle.sections.proofs.Accepted.{refusal-most}
 use Rattle.session.specs.declared.Counts.{Counts}
-use Rattle.session.specs.declared.records.Asked.{Asked}
-use Rattle.session.specs.Records.{no_counts, counts_in, check_of, asked_of, asked_row, station_of_rule, source_of, day_of_rule, pass_of_rule, station_answer, source_answer, day_answer, pass_answer, station_at_rule, source_at_rule, day_at_rule, pass_at_rule}
+use Rattle.std.specs.Prelude.{Result, Ok, Err, IsOkAnd, MatchResult}
+use Rattle.whole.specs.declared.refusal.Refusal.{Refusal}
+use Rattle.fields.specs.declared.Station.{Station}
+use Rattle.fields.specs.declared.Source.{Source}
+use Rattle.fields.specs.declared.Day.{Day}
+use Rattle.fields.specs.declared.Pass.{Pass}
+use Rattle.session.specs.Records.{asked_in, station_answer_in, source_answer_in, day_answer_in, pass_answer_in, no_counts, counts_in, check_of, Asked, asked_of, asked_row, station_of_rule, source_of, day_of_rule, pass_of_rule, station_answer, source_answer, day_answer, pass_answer, station_at_rule, source_at_rule, day_at_rule, pass_at_rule}
 
 -- a number of the code in an answer
 pub number_back : (r : ℤ) (n m : ℕ) → mag r < 2 ^ 63 → r ≡ pos n → n ≡ m → to_z w64 (of_z w64 r) ≡ pos m
@@ -95,3 +100,31 @@ module _ (s : List ℕ) where
     pub pass_yes : asked_of s 3 i ≡ 0 → pass_at_rule s i ≡ pass_answer (pos 0) (pass_of_rule s i)
     unfolding pass_at_rule pass_of_rule
     pass_yes h = ap (λ (a : Asked). pass_answer a.refusal (pass_from_rule a.row)) (row_yes 3 i h)
+
+-- what is asked for, with its record made of its row
+abbrev pub Made : {A : Type 0} → (List ℤ → A) → Result (List ℤ) Refusal → Result A Refusal → Type 0
+Made f q m = MatchResult q (λ x. IsOkAnd m (λ r. r ≡ f x)) (λ e. m ≡ Err e)
+
+pub station_made : (q : Result (List ℤ) Refusal) (m : Result Station Refusal) → Made station_from_rule q m → station_answer_in m ≡ station_answer (asked_in q).refusal (station_from_rule (asked_in q).row)
+unfolding station_from_rule
+station_made (Ok x) (Ok r) h = ap (station_answer (pos 0)) h
+station_made (Ok x) (Err e) h = elim h [ ]
+station_made (Err e) m h = ap station_answer_in h
+
+pub source_made : (q : Result (List ℤ) Refusal) (m : Result Source Refusal) → Made source_from_rule q m → source_answer_in m ≡ source_answer (asked_in q).refusal (source_from_rule (asked_in q).row)
+unfolding source_from_rule
+source_made (Ok x) (Ok r) h = ap (source_answer (pos 0)) h
+source_made (Ok x) (Err e) h = elim h [ ]
+source_made (Err e) m h = ap source_answer_in h
+
+pub day_made : (q : Result (List ℤ) Refusal) (m : Result Day Refusal) → Made day_from_rule q m → day_answer_in m ≡ day_answer (asked_in q).refusal (day_from_rule (asked_in q).row)
+unfolding day_from_rule
+day_made (Ok x) (Ok r) h = ap (day_answer (pos 0)) h
+day_made (Ok x) (Err e) h = elim h [ ]
+day_made (Err e) m h = ap day_answer_in h
+
+pub pass_made : (q : Result (List ℤ) Refusal) (m : Result Pass Refusal) → Made pass_from_rule q m → pass_answer_in m ≡ pass_answer (asked_in q).refusal (pass_from_rule (asked_in q).row)
+unfolding pass_from_rule
+pass_made (Ok x) (Ok r) h = ap (pass_answer (pos 0)) h
+pass_made (Ok x) (Err e) h = elim h [ ]
+pass_made (Err e) m h = ap pass_answer_in h

@@ -1,7 +1,8 @@
 -- The records of a session file and the answers of the calls that read it. Document 01, 'Session file' and 'Refusal numbers' 1 to 5.
-use Rattle.std.specs.Prelude.{ℕ, not, cond, List, [], ◌∷◌, ℤ, pos, replicate, ltb, eqb}
+use Rattle.std.specs.Prelude.{ℕ, not, cond, List, [], ◌∷◌, ℤ, pos, replicate, ltb, eqb, Result, Ok, Err}
 use Rattle.whole.specs.Each.{first_not}
-use Rattle.whole.specs.Refusals.{unless, lowest}
+use Rattle.whole.specs.Refusals.{unless, lowest, number_of}
+use Rattle.whole.specs.declared.refusal.Refusal.{Refusal}
 use Rattle.fields.specs.declared.Station.{Station}
 use Rattle.fields.specs.declared.Source.{Source}
 use Rattle.fields.specs.declared.Day.{Day}
@@ -16,7 +17,6 @@ use Rattle.session.specs.declared.StationAnswer.{StationAnswer}
 use Rattle.session.specs.declared.SourceAnswer.{SourceAnswer}
 use Rattle.session.specs.declared.DayAnswer.{DayAnswer}
 use Rattle.session.specs.declared.PassAnswer.{PassAnswer}
-use Rattle.session.specs.declared.records.Asked.{Asked}
 
 -- ---- check: the refusal and zeros, or 0, the four counts, and the kind of the orientation records, which document 02, L4, has two of
 
@@ -65,6 +65,16 @@ day_by s z = day_of_rule s (place_by_rule s 2 z)
 unfoldable pub asked_of : List ℕ → ℕ → ℕ → ℕ
 asked_of s p i = lowest (refusal_of_rule s ∷ unless (ltb i (count_of_rule s p)) 5 ∷ [])
 
+-- what is asked for: the refusal and zeros, or 0 and the numbers of a record
+pub record Asked : Type 0 where
+  pub refusal : ℤ
+  pub row : List ℤ
+
+-- as the code has it
+abbrev pub asked_in : Result (List ℤ) Refusal → Asked
+asked_in (Ok row) = record { refusal = pos 0; row = row }
+asked_in (Err r) = record { refusal = pos (number_of r); row = replicate 8 (pos 0) }
+
 unfoldable pub asked_row : List ℕ → ℕ → ℕ → Asked
 asked_row s p i = record { refusal = pos (asked_of s p i); row = cond (eqb (asked_of s p i) 0) (row_of places s p i) (replicate 8 (pos 0)) }
 
@@ -90,6 +100,23 @@ pass_answer n r =
       samples = r.samples;
       tolerance = r.tolerance;
     }
+
+-- what is asked for, as an answer has it
+abbrev pub station_answer_in : Result Station Refusal → StationAnswer
+station_answer_in (Ok r) = station_answer (pos 0) r
+station_answer_in (Err n) = record { refusal = pos (number_of n); id = pos 0; x = pos 0; y = pos 0; z = pos 0 }
+
+abbrev pub source_answer_in : Result Source Refusal → SourceAnswer
+source_answer_in (Ok r) = source_answer (pos 0) r
+source_answer_in (Err n) = record { refusal = pos (number_of n); id = pos 0; right_ascension = pos 0; declination = pos 0 }
+
+abbrev pub day_answer_in : Result Day Refusal → DayAnswer
+day_answer_in (Ok r) = day_answer (pos 0) r
+day_answer_in (Err n) = record { refusal = pos (number_of n); mjd = pos 0; x = pos 0; y = pos 0; ut1_utc = pos 0; tai_utc = pos 0; mark = pos 0 }
+
+abbrev pub pass_answer_in : Result Pass Refusal → PassAnswer
+pass_answer_in (Ok r) = pass_answer (pos 0) r
+pass_answer_in (Err n) = record { refusal = pos (number_of n); station1 = pos 0; station2 = pos 0; source = pos 0; mjd = pos 0; ms = pos 0; step = pos 0; samples = pos 0; tolerance = pos 0 }
 
 unfoldable pub station_at_rule : List ℕ → ℕ → StationAnswer
 station_at_rule s i = station_answer (asked_row s 0 i).refusal (station_from_rule (asked_row s 0 i).row)

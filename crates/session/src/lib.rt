@@ -1,20 +1,25 @@
 // The session file: read, checked, and its records handed out. Document 01, 'Session file'.
 #![tactic(auto)]
 
+ghost use Rattle.std.specs.Prelude.{◌≡◌};
+ghost use Rattle.session.specs.Records.{station_answer_in, source_answer_in, day_answer_in, pass_answer_in};
 ghost use Rattle.session.specs.Promises.{CheckPromise, FaultPromise, StationPromise, SourcePromise, DayPromise, PassPromise};
 
 mod faults;
 pub mod records;
 
-use faults::{kind_number, order_fault, range_fault};
-use fields::{day_from, pass_from, source_from, station_from};
+use faults::{order_fault, range_fault};
+use fields::{Day, Pass, Source, Station};
 use records::ask;
-use sections::contents::wrong_word;
+use sections::Session;
+use sections::contents::Contents;
+use sections::layouts::Order;
 use sections::order::wrong_order;
 use sections::ranges::wrong_section;
-use sections::refusal::{count_of, refusal_of};
+use whole::Refusal;
 use whole::sign::number;
 
+// These structs go to C: a refusal stands in each as its number, and zeros behind it.
 #[repr(C)]
 #[derive(Drop)]
 pub struct Counts {
@@ -80,28 +85,130 @@ pub struct Place {
     pub field: i64,
 }
 
+// What is asked for as C has it: 0 and the record, or the refusal and zeros.
+impl From<Result<Station, Refusal>> for StationAnswer {
+    ghost from_gives = { λ r a. a ≡ station_answer_in r };
+
+    fn from(asked: Result<Station, Refusal>) -> StationAnswer {
+        match asked {
+            Ok(r) => StationAnswer {
+                refusal: 0,
+                id: r.id,
+                x: r.x,
+                y: r.y,
+                z: r.z,
+            },
+            Err(n) => StationAnswer {
+                refusal: n.number(),
+                id: 0,
+                x: 0,
+                y: 0,
+                z: 0,
+            },
+        }
+    }
+}
+
+impl From<Result<Source, Refusal>> for SourceAnswer {
+    ghost from_gives = { λ r a. a ≡ source_answer_in r };
+
+    fn from(asked: Result<Source, Refusal>) -> SourceAnswer {
+        match asked {
+            Ok(r) => SourceAnswer {
+                refusal: 0,
+                id: r.id,
+                right_ascension: r.right_ascension,
+                declination: r.declination,
+            },
+            Err(n) => SourceAnswer {
+                refusal: n.number(),
+                id: 0,
+                right_ascension: 0,
+                declination: 0,
+            },
+        }
+    }
+}
+
+impl From<Result<Day, Refusal>> for DayAnswer {
+    ghost from_gives = { λ r a. a ≡ day_answer_in r };
+
+    fn from(asked: Result<Day, Refusal>) -> DayAnswer {
+        match asked {
+            Ok(r) => DayAnswer {
+                refusal: 0,
+                mjd: r.mjd,
+                x: r.x,
+                y: r.y,
+                ut1_utc: r.ut1_utc,
+                tai_utc: r.tai_utc,
+                mark: r.mark,
+            },
+            Err(n) => DayAnswer {
+                refusal: n.number(),
+                mjd: 0,
+                x: 0,
+                y: 0,
+                ut1_utc: 0,
+                tai_utc: 0,
+                mark: 0,
+            },
+        }
+    }
+}
+
+impl From<Result<Pass, Refusal>> for PassAnswer {
+    ghost from_gives = { λ r a. a ≡ pass_answer_in r };
+
+    fn from(asked: Result<Pass, Refusal>) -> PassAnswer {
+        match asked {
+            Ok(r) => PassAnswer {
+                refusal: 0,
+                station1: r.station1,
+                station2: r.station2,
+                source: r.source,
+                mjd: r.mjd,
+                ms: r.ms,
+                step: r.step,
+                samples: r.samples,
+                tolerance: r.tolerance,
+            },
+            Err(n) => PassAnswer {
+                refusal: n.number(),
+                station1: 0,
+                station2: 0,
+                source: 0,
+                mjd: 0,
+                ms: 0,
+                step: 0,
+                samples: 0,
+                tolerance: 0,
+            },
+        }
+    }
+}
+
 // The refusal and zeros, or 0, the four counts, and the kind of the orientation records.
 pub fn check(file: &[u8]) -> Counts
     ensures { CheckPromise file.now result }
 {
-    let n = refusal_of(file);
-    if n != 0 {
-        return Counts {
-            refusal: number(n),
+    match Session::read(file) {
+        Ok(s) => Counts {
+            refusal: 0,
+            stations: number(s.count(0)),
+            sources: number(s.count(1)),
+            days: number(s.count(2)),
+            passes: number(s.count(3)),
+            day_kind: number(s.contents().kind(2)),
+        },
+        Err(r) => Counts {
+            refusal: r.number(),
             stations: 0,
             sources: 0,
             days: 0,
             passes: 0,
             day_kind: 0,
-        };
-    }
-    Counts {
-        refusal: 0,
-        stations: number(count_of(file, 0)),
-        sources: number(count_of(file, 1)),
-        days: number(count_of(file, 2)),
-        passes: number(count_of(file, 3)),
-        day_kind: kind_number(file, 2),
+        },
     }
 }
 
@@ -110,16 +217,7 @@ pub fn check(file: &[u8]) -> Counts
 pub fn station_at(file: &[u8], index: usize) -> StationAnswer
     ensures { StationPromise file.now index result }
 {
-    let a = ask(file, 0, index);
-    let row = a.row;
-    let r = station_from(&row);
-    StationAnswer {
-        refusal: a.refusal,
-        id: r.id,
-        x: r.x,
-        y: r.y,
-        z: r.z,
-    }
+    ask(file, 0, index).map(Station::from).into()
 }
 
 // The source with this index, counted from 0; 5 beyond the last.
@@ -127,15 +225,7 @@ pub fn station_at(file: &[u8], index: usize) -> StationAnswer
 pub fn source_at(file: &[u8], index: usize) -> SourceAnswer
     ensures { SourcePromise file.now index result }
 {
-    let a = ask(file, 1, index);
-    let row = a.row;
-    let r = source_from(&row);
-    SourceAnswer {
-        refusal: a.refusal,
-        id: r.id,
-        right_ascension: r.right_ascension,
-        declination: r.declination,
-    }
+    ask(file, 1, index).map(Source::from).into()
 }
 
 // The orientation record with this index, counted from 0; 5 beyond the last.
@@ -143,18 +233,7 @@ pub fn source_at(file: &[u8], index: usize) -> SourceAnswer
 pub fn day_at(file: &[u8], index: usize) -> DayAnswer
     ensures { DayPromise file.now index result }
 {
-    let a = ask(file, 2, index);
-    let row = a.row;
-    let r = day_from(&row);
-    DayAnswer {
-        refusal: a.refusal,
-        mjd: r.mjd,
-        x: r.x,
-        y: r.y,
-        ut1_utc: r.ut1_utc,
-        tai_utc: r.tai_utc,
-        mark: r.mark,
-    }
+    ask(file, 2, index).map(Day::from).into()
 }
 
 // The pass with this index, counted from 0; 5 beyond the last.
@@ -162,46 +241,35 @@ pub fn day_at(file: &[u8], index: usize) -> DayAnswer
 pub fn pass_at(file: &[u8], index: usize) -> PassAnswer
     ensures { PassPromise file.now index result }
 {
-    let a = ask(file, 3, index);
-    let row = a.row;
-    let r = pass_from(&row);
-    PassAnswer {
-        refusal: a.refusal,
-        station1: r.station1,
-        station2: r.station2,
-        source: r.source,
-        mjd: r.mjd,
-        ms: r.ms,
-        step: r.step,
-        samples: r.samples,
-        tolerance: r.tolerance,
-    }
+    ask(file, 3, index).map(Pass::from).into()
 }
 
 // Where the number that `check` gives arises first; zeros for a file that is accepted.
 pub fn fault(file: &[u8]) -> Place
     ensures { FaultPromise file.now result }
 {
-    let w = wrong_word(file);
-    if w < 14 {
-        return Place {
-            number: 1,
-            section: 0,
-            record: 0,
-            field: number(w),
-        };
-    }
-    let p = wrong_section(file);
+    let c = match Contents::read(file) {
+        Ok(c) => c,
+        Err(w) => {
+            return Place {
+                number: Refusal::Contents.number(),
+                section: 0,
+                record: 0,
+                field: number(w),
+            };
+        }
+    };
+    let p = wrong_section(c);
     if p < 4 {
-        return range_fault(file, p);
+        return range_fault(c, p);
     }
-    let q = wrong_order(file, 1);
+    let q = wrong_order(c, Order::Rising);
     if q < 4 {
-        return order_fault(file, q, 1, 3);
+        return order_fault(c, q, Order::Rising, Refusal::Order);
     }
-    let r = wrong_order(file, 2);
+    let r = wrong_order(c, Order::Consecutive);
     if r < 4 {
-        return order_fault(file, r, 2, 4);
+        return order_fault(c, r, Order::Consecutive, Refusal::Days);
     }
     Place {
         number: 0,

@@ -1,13 +1,13 @@
 -- Lists that are right counts of whole records. Assumes nothing.
 use mathlib.Core.Path.{◌≡◌, refl, sym, ap, ◌∙◌}
-use Prim.Native.Nat.{ℕ, zero, suc, ◌*◌, ◌/◌, ◌≤◌, ◌<◌}
+use Prim.Native.Nat.{ℕ, zero, suc, ◌*◌, ◌/◌, ◌<◌}
 use native.Mathlib.Omega.{arith}
 use mathlib.Core.Bool.{true, false}
 use mathlib.Core.List.{List}
 use lib.ListN.{length}
 use lib.IntN.{ℤ}
-use lib.Dec.{leb, eqb}
-use borrow.Author.Tests.{eq-eqb, ne_eqb, eqb-true, le-leb, lt-leb, lt-ltb, ltb-true}
+use lib.Dec.{eqb}
+use borrow.Author.Tests.{eq-eqb, ne_eqb, eqb-true, lt-ltb, ltb-true}
 use Rattle.whole.proofs.Linear.{and_true}
 use Rattle.whole.proofs.Each.{below_each}
 use Rattle.sections.specs.Layouts.{Layout, Table, layout_in_rule, stands_in}
@@ -48,14 +48,9 @@ module _ {t : Table} (g : Good t) (p k n : ℕ) where
     unfolding list_right_rule
     list_broken h = rw (stands, ne_eqb (size_in t p k * (n / size_in t p k)) n h)
 
-    module _ (b : size_in t p k * (n / size_in t p k) ≡ n) where
-      pub list_few : n / size_in t p k < (layout_in_rule t p k).fewest → list_right_rule t p k n ≡ false
-      unfolding list_right_rule
-      list_few h = rw (stands, eq-eqb _ n b, lt-leb (layout_in_rule t p k).fewest (n / size_in t p k) h)
-
-      pub list_is : (layout_in_rule t p k).fewest ≤ n / size_in t p k → list_right_rule t p k n ≡ leb (n / size_in t p k) (layout_in_rule t p k).most
-      unfolding list_right_rule
-      list_is h = rw (stands, eq-eqb _ n b, le-leb (layout_in_rule t p k).fewest (n / size_in t p k) h)
+    pub list_counted : size_in t p k * (n / size_in t p k) ≡ n → list_right_rule t p k n ≡ between (layout_in_rule t p k).fewest (layout_in_rule t p k).most (n / size_in t p k)
+    unfolding list_right_rule
+    list_counted b = rw (stands, eq-eqb _ n b)
 
 -- ---- what they say
 

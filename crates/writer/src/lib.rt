@@ -1,25 +1,28 @@
 // The session file, written. Document 01, 'Session file'.
 #![tactic(auto)]
 
-ghost use Rattle.std.specs.Prelude.{◌≡◌, true, [], ◌∷◌, ◌+◌, ◌*◌, ◌≤◌, length, pos};
+ghost use Rattle.std.specs.Prelude.{◌≡◌, true, ◌+◌, ◌*◌, ◌≤◌, length, pos};
+ghost use Rattle.whole.specs.Answers.{answer_in};
+ghost use Rattle.whole.specs.Refusals.{number_in};
 ghost use Rattle.text.specs.Bytes.{pasted, words_of, bytes_of_all};
 ghost use Rattle.text.specs.Put.{Put};
 ghost use Rattle.sections.specs.Layouts.{places};
 ghost use Rattle.writer.specs.Writing.{kinds_with_rule, lists_right_rule, file_of, write_refusal};
+ghost use Rattle.writer.specs.Lists.{of_lists};
 ghost use Rattle.writer.specs.Promises.{WritePromise, WriteAsPromise};
 
 mod lists;
 mod marks;
 pub mod theorems;
 
-use lists::{contents_for, lists_right, others_right};
+use lists::{Lists, contents_for, lists_right, others_right};
 use marks::{put_unmarked, unmarked};
-use sections::refusal::refusal_of;
+use sections::Session;
 use text::bytes::{put_numbers, put_words};
 use whole::sign::number;
-use whole::{Number, no_number};
+use whole::{Number, Refusal};
 
-// The kinds that the four places are to have.
+// The kinds that the four places are to have, each by its name: `WriteAsPromise` speaks of this struct.
 #[derive(Clone, Copy)]
 pub struct Kinds {
     pub first: usize,
@@ -38,36 +41,41 @@ fn put_list(d: &mut [u8], at: usize, zs: &[i64]) -> usize
 }
 
 // The file of the four lists, at the start of d; its length.
-fn encode(d: &mut [u8], k: Kinds, p: &[i64], q: &[i64], r: &[i64], t: &[i64]) -> usize
-    requires { (lists_right_rule places k (p.now ∷ q.now ∷ r.now ∷ t.now ∷ []) ≡ true) × (length (file_of places k (p.now ∷ q.now ∷ r.now ∷ t.now ∷ [])) ≤ length d.old) }
-    ensures { Put d.old 0 (file_of places k (p.now ∷ q.now ∷ r.now ∷ t.now ∷ [])) d.new result }
+fn encode(d: &mut [u8], l: Lists<'_>) -> usize
+    requires { (lists_right_rule places l.kinds (of_lists l) ≡ true) × (length (file_of places l.kinds (of_lists l)) ≤ length d.old) }
+    ensures { Put d.old 0 (file_of places l.entry.kinds (of_lists l.entry)) d.new result }
 {
-    let h = contents_for(k, p, q, r, t);
+    let h = contents_for(l);
     put_words(d, 0, &h);
-    let s2 = put_list(d, 104, p);
-    let s3 = put_list(d, s2, q);
-    let s4 = put_list(d, s3, r);
-    put_list(d, s4, t)
+    let s2 = put_list(d, 104, l.stations);
+    let s3 = put_list(d, s2, l.sources);
+    let s4 = put_list(d, s3, l.days);
+    put_list(d, s4, l.passes)
 }
 
-// The number of a call of these lists for a room of so many bytes; 0 where it is not refused.
-// The file is made apart, in the most bytes that a file can have, and judged by the reader's own tests.
-fn judged(k: Kinds, p: &[i64], q: &[i64], r: &[i64], t: &[i64], room: usize) -> usize
-    ensures { (result ≡ write_refusal places k (p.now ∷ q.now ∷ r.now ∷ t.now ∷ []) room) × (result ≤ 7) }
+// Whether a call of these lists for a room of so many bytes is refused.
+// The file is made apart, in the most bytes that a file can have since no heap is used, and judged by the reader's own tests.
+fn judged(l: Lists<'_>, room: usize) -> Result<(), Refusal>
+    ensures { number_in result ≡ write_refusal places l.entry.kinds (of_lists l.entry) room }
 {
-    if !lists_right(k, p, q, r, t) {
-        return 1;
+    if !lists_right(l) {
+        return Err(Refusal::Contents);
     }
     let mut file = [0u8; 15_464];
-    let n = encode(&mut file, k, p, q, r, t);
-    let by_reader = refusal_of(&file[..n]);
-    if by_reader != 0 {
-        return by_reader;
-    }
+    let n = encode(&mut file, l);
+    let _ = Session::read(&file[..n])?;
     if room < n {
-        return 7;
+        return Err(Refusal::Room);
     }
-    0
+    Ok(())
+}
+
+// The file of the lists, written to the start of room, and its length: a refused call stores nothing there.
+fn written(l: Lists<'_>, room: &mut [u8]) -> Result<i64, Refusal>
+    ensures { WriteAsPromise l.entry.kinds l.entry.stations.now l.entry.sources.now l.entry.days.now l.entry.passes.now room.old (answer_in result) room.new }
+{
+    judged(l, room.len())?;
+    Ok(number(encode(room, l)))
 }
 
 // The file of four lists, each place with the kind that it is to have, written to the start of room: a refused call stores nothing there.
@@ -81,15 +89,14 @@ pub fn write_as(
 ) -> Number
     ensures { WriteAsPromise k stations.now sources.now days.now passes.now room.old result room.new }
 {
-    let refusal = judged(k, stations, sources, days, passes, room.len());
-    if refusal != 0 {
-        return no_number(refusal);
-    }
-    let n = encode(room, k, stations, sources, days, passes);
-    Number {
-        refusal: 0,
-        value: number(n),
-    }
+    let l = Lists {
+        kinds: k,
+        stations,
+        sources,
+        days,
+        passes,
+    };
+    written(l, room).into()
 }
 
 // The kinds of the four places, by that of the days.
@@ -99,33 +106,35 @@ fn kinds_with(third: usize) -> Kinds
     Kinds {
         first: 1,
         second: 2,
-        third: third,
+        third,
         fourth: 4,
     }
 }
 
-// The file with days of kind 3, which has no marks: five numbers of each record stand in it.
-fn write_unmarked(
-    stations: &[i64],
-    sources: &[i64],
-    days: &[i64],
-    passes: &[i64],
-    room: &mut [u8],
-) -> Number
-    ensures { WritePromise (pos 3) stations.now sources.now days.now passes.now room.old result room.new }
+// The file with days of kind 3, which has no marks: five numbers of each record of the marked days stand in it.
+fn write_unmarked(marked: Lists<'_>, room: &mut [u8]) -> Result<i64, Refusal>
+    requires { marked.kinds ≡ kinds_with_rule 5 }
+    ensures { WritePromise (pos 3) marked.entry.stations.now marked.entry.sources.now marked.entry.days.now marked.entry.passes.now room.old (answer_in result) room.new }
 {
-    if !lists_right(kinds_with(5), stations, sources, days, passes) {
-        return no_number(1);
+    if !lists_right(marked) {
+        return Err(Refusal::Contents);
     }
-    if !unmarked(days) {
-        return no_number(2);
+    if !unmarked(marked.days) {
+        return Err(Refusal::Range);
     }
+    // Fixed memory: five numbers of each of 64 records at most.
     let mut five = [0i64; 320];
-    let n = put_unmarked(&mut five, days);
-    write_as(kinds_with(3), stations, sources, &five[..n], passes, room)
+    let n = put_unmarked(&mut five, marked.days);
+    let bare = Lists {
+        kinds: kinds_with(3),
+        days: &five[..n],
+        ..marked
+    };
+    written(bare, room)
 }
 
-// The session file of four lists of numbers, record after record, written to the start of room; its days have the kind 3 or 5.
+// The session file of four lists of numbers, record after record, written to the start of room; its days have the kind 3 or 5. C gives the kind as a number and
+// the lists one by one, and `WritePromise` speaks of each.
 pub fn write(
     day_kind: i64,
     stations: &[i64],
@@ -136,14 +145,21 @@ pub fn write(
 ) -> Number
     ensures { WritePromise day_kind stations.now sources.now days.now passes.now room.old result room.new }
 {
+    let l = Lists {
+        kinds: kinds_with(5),
+        stations,
+        sources,
+        days,
+        passes,
+    };
     if day_kind == 3 {
-        return write_unmarked(stations, sources, days, passes, room);
+        return write_unmarked(l, room).into();
     }
     if day_kind == 5 {
-        return write_as(kinds_with(5), stations, sources, days, passes, room);
+        return written(l, room).into();
     }
-    if !others_right(stations, sources, passes) {
-        return no_number(1);
+    if !others_right(l) {
+        return Number::from(Err(Refusal::Contents));
     }
-    no_number(2)
+    Number::from(Err(Refusal::Range))
 }

@@ -1,80 +1,75 @@
 // The four lists of numbers: whether they are right counts of whole records, and the contents table that they have.
-ghost use Rattle.std.specs.Prelude.{◌≡◌, true, [], ◌∷◌, ◌/◌, ◌<◌};
+ghost use Rattle.std.specs.Prelude.{◌≡◌, true, ◌/◌, ◌<◌};
 ghost use Rattle.sections.specs.Layouts.{places};
 ghost use Rattle.writer.specs.Writing.{size_in, list_right_rule, lists_right_rule, others_right_rule, contents_for_rule};
+ghost use Rattle.writer.specs.Lists.{of_lists};
 
 use crate::Kinds;
 use sections::layouts::layout_in;
 
+// A list for each place, and the kinds that the places are to have.
+#[derive(Clone, Copy)]
+pub struct Lists<'a> {
+    pub kinds: Kinds,
+    pub stations: &'a [i64],
+    pub sources: &'a [i64],
+    pub days: &'a [i64],
+    pub passes: &'a [i64],
+}
+
 // Whether n numbers are a right count of whole records of a kind in a place.
 fn list_right(place: usize, kind: usize, n: usize) -> bool
-    requires { place < 4 }
     ensures { result ≡ list_right_rule places place kind n }
 {
     let l = layout_in(place, kind);
-    let size = l.size;
-    if size == 0 {
+    if l.size == 0 {
         return false;
     }
-    let count = n / size;
-    if size * count != n {
-        return false;
-    }
-    if count < l.fewest {
-        return false;
-    }
-    count <= l.most
+    let count = n / l.size;
+    l.size * count == n && (l.fewest..=l.most).contains(&count)
 }
 
-pub fn lists_right(k: Kinds, p: &[i64], q: &[i64], r: &[i64], t: &[i64]) -> bool
-    ensures { result ≡ lists_right_rule places k (p.now ∷ q.now ∷ r.now ∷ t.now ∷ []) }
+#[tactic(auto, unfolding(crate::specs::Writing::lists_right_rule, whole::specs::Each::all_below))]
+pub fn lists_right(l: Lists<'_>) -> bool
+    ensures { result ≡ lists_right_rule places l.entry.kinds (of_lists l.entry) }
 {
-    if !list_right(0, k.first, p.len()) {
-        return false;
-    }
-    if !list_right(1, k.second, q.len()) {
-        return false;
-    }
-    if !list_right(2, k.third, r.len()) {
-        return false;
-    }
-    list_right(3, k.fourth, t.len())
+    list_right(0, l.kinds.first, l.stations.len())
+        && list_right(1, l.kinds.second, l.sources.len())
+        && list_right(2, l.kinds.third, l.days.len())
+        && list_right(3, l.kinds.fourth, l.passes.len())
 }
 
 // Whether the stations, the sources and the passes are right counts of whole records.
-pub fn others_right(stations: &[i64], sources: &[i64], passes: &[i64]) -> bool
-    ensures { result ≡ others_right_rule stations.now sources.now passes.now }
+#[tactic(auto, unfolding(crate::specs::Writing::others_right_rule))]
+pub fn others_right(l: Lists<'_>) -> bool
+    ensures { result ≡ others_right_rule l.entry.stations.now l.entry.sources.now l.entry.passes.now }
 {
-    if !list_right(0, 1, stations.len()) {
-        return false;
-    }
-    if !list_right(1, 2, sources.len()) {
-        return false;
-    }
-    list_right(3, 4, passes.len())
+    list_right(0, 1, l.stations.len())
+        && list_right(1, 2, l.sources.len())
+        && list_right(3, 4, l.passes.len())
 }
 
 // How many records n numbers are.
 fn count_in(place: usize, kind: usize, n: usize) -> u64
-    requires { (place < 4) × (0 < size_in places place kind) }
+    requires { 0 < size_in places place kind }
     ensures { result ≡ n / size_in places place kind }
 {
-    let l = layout_in(place, kind);
-    (n / l.size) as u64
+    (n / layout_in(place, kind).size) as u64
 }
 
 // The contents table of a file of these lists.
-pub fn contents_for(k: Kinds, p: &[i64], q: &[i64], r: &[i64], t: &[i64]) -> [u64; 13]
-    requires { lists_right_rule places k (p.now ∷ q.now ∷ r.now ∷ t.now ∷ []) ≡ true }
-    ensures { result ≡ contents_for_rule places k (p.now ∷ q.now ∷ r.now ∷ t.now ∷ []) }
+pub fn contents_for(l: Lists<'_>) -> [u64; 13]
+    requires { lists_right_rule places l.kinds (of_lists l) ≡ true }
+    ensures { result ≡ contents_for_rule places l.entry.kinds (of_lists l.entry) }
 {
-    let n1 = count_in(0, k.first, p.len());
-    let n2 = count_in(1, k.second, q.len());
-    let n3 = count_in(2, k.third, r.len());
-    let n4 = count_in(3, k.fourth, t.len());
-    let s2 = 104 + 8 * p.len();
-    let s3 = s2 + 8 * q.len();
-    let s4 = s3 + 8 * r.len();
+    let k = l.kinds;
+    let n1 = count_in(0, k.first, l.stations.len());
+    let n2 = count_in(1, k.second, l.sources.len());
+    let n3 = count_in(2, k.third, l.days.len());
+    let n4 = count_in(3, k.fourth, l.passes.len());
+    let s2 = 104 + 8 * l.stations.len();
+    let s3 = s2 + 8 * l.sources.len();
+    let s4 = s3 + 8 * l.days.len();
     [
         4,
         k.first as u64,

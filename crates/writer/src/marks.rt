@@ -2,19 +2,14 @@
 ghost use Rattle.std.specs.Prelude.{◌≡◌, ◌/◌, ◌*◌, ◌≤◌, length, take};
 ghost use Rattle.writer.specs.Writing.{unmarked, without_marks};
 
+use whole::below::all_pass;
+
 // Whether each record of a day list is marked 0.
+#[tactic(auto, unfolding(crate::specs::Writing::unmarked))]
 pub fn unmarked(days: &[i64]) -> bool
     ensures { result ≡ unmarked days.now }
 {
-    let records = days.len() / 6;
-    let mut i: usize = 0;
-    while i < records {
-        if days[6 * i + 5] != 0 {
-            return false;
-        }
-        i += 1;
-    }
-    true
+    all_pass(days.len() / 6, |i| days[6 * i + 5] == 0)
 }
 
 // The first five numbers of each record, from the start of the room; how many numbers these are.
@@ -23,11 +18,9 @@ pub fn put_unmarked(room: &mut [i64], days: &[i64]) -> usize
     ensures { (result ≡ length (without_marks days.now)) × (take result room.new ≡ without_marks days.now) }
 {
     let n = 5 * (days.len() / 6);
-    let mut i: usize = 0;
     // Behind each five numbers a mark is passed by.
-    while i < n {
+    for i in 0..n {
         room[i] = days[i + i / 5];
-        i += 1;
     }
     n
 }

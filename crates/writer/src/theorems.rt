@@ -4,16 +4,13 @@ ghost use Rattle.std.specs.Prelude.{[], ◌∷◌};
 ghost use Rattle.writer.specs.Round.{Longs, ReadBackAs, WrittenBackAs, ReadBack, WrittenBack};
 
 use crate::Kinds;
-use sections::refusal::refusal_of;
 
 // Each number of a slice fits 64 bits.
 fn each_fits(zs: &[i64])
     ensures { Longs zs.now }
 {
-    let mut i: usize = 0;
-    while i < zs.len() {
-        let z = zs[i];
-        i += 1;
+    for z in zs {
+        let n = *z;
     }
 }
 
@@ -37,9 +34,7 @@ pub fn reads_back_as(
 // An accepted file is the one that `write_as` makes of its kinds and records: for every file.
 pub fn writes_back_as(file: &[u8])
     ensures { WrittenBackAs file.now }
-{
-    let n = refusal_of(file);
-}
+{}
 
 // What `write` writes is read back: for any kind of days, every four lists and every room.
 pub fn reads_back(
@@ -61,6 +56,4 @@ pub fn reads_back(
 // An accepted file is the one that `write` makes of its kind of days and its records: for every file.
 pub fn writes_back(file: &[u8])
     ensures { WrittenBack file.now }
-{
-    let n = refusal_of(file);
-}
+{}

@@ -11,9 +11,9 @@ use Rattle.writer.proofs.encode.Goals as goal
 pub put_words-requires : goal.put_words-requires
 unfolding start_for
 put_words-requires c =
-    let a = c.args in
-    let ls = a.p.now ∷ a.q.now ∷ a.r.now ∷ a.t.now ∷ [] in
-    omega (arith, ap length c.contents_for-h.ensures, contents_long places a.k ls, c.requires.1, made-long places a.k ls)
+    let a = c.args.l in
+    let ls = a.stations.now ∷ a.sources.now ∷ a.days.now ∷ a.passes.now ∷ [] in
+    omega (arith, ap length c.contents_for-h.ensures, contents_long places a.kinds ls, c.requires.1, made-long places a.kinds ls)
 
 pub put_list-s2-requires : goal.put_list-s2-requires
 unfolding start_for
@@ -34,19 +34,19 @@ put_list-requires c = omega (arith, made-fits places _ _ _ c.requires.1)
 pub returns : goal.returns
 unfolding file_of file_words joined start_for
 returns c =
-    let a = c.args in
-    let ls = a.p.now ∷ a.q.now ∷ a.r.now ∷ a.t.now ∷ [] in
-    let h = contents_for_rule places a.k ls in
-    let wp = words_of a.p.now in
-    let wq = words_of a.q.now in
-    let wr = words_of a.r.now in
-    let wt = words_of a.t.now in
-    let long = made-long places a.k ls in
-    let lh = contents_long places a.k ls in
-    let lp = length-map a.p.now (of_z w64) in
-    let lq = length-map a.q.now (of_z w64) in
-    let lr = length-map a.r.now (of_z w64) in
-    let d = a.d.now in
+    let a = c.args.l in
+    let ls = a.stations.now ∷ a.sources.now ∷ a.days.now ∷ a.passes.now ∷ [] in
+    let h = contents_for_rule places a.kinds ls in
+    let wp = words_of a.stations.now in
+    let wq = words_of a.sources.now in
+    let wr = words_of a.days.now in
+    let wt = words_of a.passes.now in
+    let long = made-long places a.kinds ls in
+    let lh = contents_long places a.kinds ls in
+    let lp = length-map a.stations.now (of_z w64) in
+    let lq = length-map a.sources.now (of_z w64) in
+    let lr = length-map a.days.now (of_z w64) in
+    let d = c.args.d.now in
     let e1 = c.put_list-s2.ensures in
     let e2 = c.put_list-s3.ensures in
     let e3 = c.put_list-s4.ensures in

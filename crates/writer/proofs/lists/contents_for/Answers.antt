@@ -7,16 +7,16 @@ use Rattle.writer.proofs.Longest.{lists_short}
 use Rattle.writer.proofs.lists.contents_for.Goals as goal
 
 pub count_in-n1-requires : goal.count_in-n1-requires
-count_in-n1-requires c = (omega arith, (lists_right_lem today _ _ c.requires 0 (omega arith)).size)
+count_in-n1-requires c = (lists_right_lem today _ _ c.requires 0 (omega arith)).size
 
 pub count_in-n2-requires : goal.count_in-n2-requires
-count_in-n2-requires c = (omega arith, (lists_right_lem today _ _ c.requires 1 (omega arith)).size)
+count_in-n2-requires c = (lists_right_lem today _ _ c.requires 1 (omega arith)).size
 
 pub count_in-n3-requires : goal.count_in-n3-requires
-count_in-n3-requires c = (omega arith, (lists_right_lem today _ _ c.requires 2 (omega arith)).size)
+count_in-n3-requires c = (lists_right_lem today _ _ c.requires 2 (omega arith)).size
 
 pub count_in-n4-requires : goal.count_in-n4-requires
-count_in-n4-requires c = (omega arith, (lists_right_lem today _ _ c.requires 3 (omega arith)).size)
+count_in-n4-requires c = (lists_right_lem today _ _ c.requires 3 (omega arith)).size
 
 pub overflow_add-s3 : goal.overflow_add-s3
 unfolding start_for
@@ -29,7 +29,7 @@ overflow_add-s4 c = omega (arith, lists_short _ _ c.requires)
 pub returns : goal.returns
 unfolding contents_for_rule joined start_for
 returns c =
-    let a = c.args in
-    let s2 = 104 + 8 * length a.p.now in
-    let s3 = s2 + 8 * length a.q.now in
-    λ j. 4 ∷ a.k.first ∷ 104 ∷ c.count_in-n1.ensures j ∷ a.k.second ∷ s2 ∷ c.count_in-n2.ensures j ∷ a.k.third ∷ s3 ∷ c.count_in-n3.ensures j ∷ a.k.fourth ∷ (s3 + 8 * length a.r.now) ∷ c.count_in-n4.ensures j ∷ []
+    let a = c.args.l in
+    let s2 = 104 + 8 * length a.stations.now in
+    let s3 = s2 + 8 * length a.sources.now in
+    λ j. 4 ∷ a.kinds.first ∷ 104 ∷ c.count_in-n1.ensures j ∷ a.kinds.second ∷ s2 ∷ c.count_in-n2.ensures j ∷ a.kinds.third ∷ s3 ∷ c.count_in-n3.ensures j ∷ a.kinds.fourth ∷ (s3 + 8 * length a.days.now) ∷ c.count_in-n4.ensures j ∷ []

@@ -8,7 +8,7 @@ use Rattle.writer.proofs.marks.put_unmarked.Goals as goal
 
 pub loop-i-init : goal.loop-i-init
 unfolding first_values
-loop-i-init c = record { all = refl; enough = c.requires; same = refl; passed = omega arith; so_far = refl }
+loop-i-init c = record { all = refl; enough = c.requires; same = refl; so_far = refl }
 
 pub loop-i-preserved : goal.loop-i-preserved
 loop-i-preserved c =
@@ -20,7 +20,6 @@ loop-i-preserved c =
       all = refl;
       enough = c.requires;
       same = simp length-set inv.same;
-      passed = omega arith;
       so_far = rw (add-one i) (e ∙ value-next i f c.args.room.now (omega arith));
     }
 
@@ -28,5 +27,5 @@ pub returns : goal.returns
 returns c =
     let days = c.args.days.now in
     let n = 5 * (length days / 6) in
-    let e : c.loop-i.i ≡ n = omega arith in
+    let e : c.loop-i.i ≡ n = omega (arith, c.loop-i.auto.i-end, c.loop-i.invariant.all) in
     (sym (kept_long days), ap (take n) (rw e at c.loop-i.invariant.so_far) ∙ take_at (first_values n (kept_at days)) _ n (values_long n (kept_at days)) ∙ sym (kept days))

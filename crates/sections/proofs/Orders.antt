@@ -1,0 +1,47 @@
+-- The order of a layout, as the code holds it. Assumes nothing.
+use mathlib.Core.Path.{◌≡◌, refl, sym}
+use Prim.Native.Nat.{ℕ, zero, suc, ◌≤◌}
+use mathlib.Core.Bool.{Bool, true, false, not}
+use native.Mathlib.Omega.{arith}
+use lib.Dec.{eqb, leb}
+use borrow.Author.Tests.{leb-true}
+use denote.Enum.Bare.{sameb}
+use Rattle.sections.specs.contracts.layouts.Order.{the_type}
+use Rattle.sections.specs.declared.layouts.Order.{Order}
+use Rattle.sections.specs.declared.layouts.Order.TheVariants.{Any, Rising, Consecutive}
+use Rattle.sections.specs.Code.{order_of, order_number, shape_of}
+use Rattle.sections.specs.Layouts.{Layout, places, no_layout, layout_in_rule}
+use Rattle.sections.proofs.Shapes.{any_kind}
+
+known : Layout → Bool
+known l = leb l.order 2
+
+-- today's kinds have one of the three orders
+order_known : (p k : ℕ) → (layout_in_rule places p k).order ≤ 2
+unfolding known places no_layout
+order_known p k = leb-true _ _ (any_kind known places p k refl refl)
+
+tests : (n : ℕ) → n ≤ 2 → (o : Order) → sameb the_type (order_of n) o ≡ eqb n (order_number o)
+tests zero h Any = refl
+tests zero h Rising = refl
+tests zero h Consecutive = refl
+tests (suc zero) h Any = refl
+tests (suc zero) h Rising = refl
+tests (suc zero) h Consecutive = refl
+tests (suc (suc zero)) h Any = refl
+tests (suc (suc zero)) h Rising = refl
+tests (suc (suc zero)) h Consecutive = refl
+tests (suc (suc (suc n))) h o = absurd (omega (arith, h))
+
+-- that a layout has an order, as the code tests it
+pub same_order : (p k : ℕ) (o : Order) → sameb the_type (shape_of (layout_in_rule places p k)).order o ≡ eqb (layout_in_rule places p k).order (order_number o)
+unfolding shape_of
+same_order p k o = tests _ (order_known p k) o
+
+pub denied : (b : Bool) → not b ≡ true → b ≡ false
+denied true e = sym e
+denied false e = refl
+
+pub affirmed : (b : Bool) → not b ≡ false → b ≡ true
+affirmed true e = refl
+affirmed false e = sym e

@@ -1,0 +1,7 @@
+use native.Mathlib.Omega.{arith}
+use Rattle.sections.proofs.Sound.{table_long}
+use Rattle.sections.proofs.Shapes.{today}
+use Rattle.sections.proofs.contents.Contents.first_byte.Goals as goal
+
+pub word_at-requires : goal.word_at-requires
+word_at-requires c = omega (arith, table_long today c.args.self.file.now c.args.self.right c.args.p c.requires)
