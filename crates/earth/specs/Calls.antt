@@ -17,6 +17,9 @@ use Rattle.earth.specs.DelaunayArguments.{arguments_of}
 use Rattle.earth.specs.TideInUT1.{tide_of}
 use Rattle.earth.specs.Angle.{e_of, era_of}
 
+abbrev pub epoch_of : ℤ → ℤ → Epoch
+epoch_of day ms = record { day = day; ms = ms }
+
 -- ---- the tests of the arguments, and the number of a call by them
 
 -- a day, a millisecond of it, and a third argument with its range
@@ -51,9 +54,6 @@ abbrev pub no_turn : ℕ → AngleAnswer
 no_turn n = record { refusal = pos n; e = pos 0; tick = 0 }
 
 -- ---- the calls
-
-abbrev pub epoch_of : ℤ → ℤ → Epoch
-epoch_of day ms = record { day = day; ms = ms }
 
 -- later(day, ms, add)
 unfoldable pub later_outcome : ℤ → ℤ → ℤ → EpochAnswer

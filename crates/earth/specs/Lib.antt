@@ -1,4 +1,5 @@
 pub mod Ranges
+pub mod Instant
 pub mod Epoch
 pub mod Minutes
 pub mod DelaunayArguments

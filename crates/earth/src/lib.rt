@@ -6,8 +6,12 @@ pub mod ticks;
 pub mod time;
 pub mod turn;
 
-ghost use Rattle.std.specs.Prelude.{◌≡◌};
-ghost use Rattle.earth.specs.Calls.{epoch_inside, angle_inside};
+ghost use Rattle.std.specs.Prelude.{◌≡◌, ◌^◌, ◌<◌, true, false, IfOk, IfErr};
+ghost use Rattle.whole.specs.Whole.{∣◌∣};
+ghost use Rattle.fields.specs.Ranges.{Holds, mjd, taiutc};
+ghost use Rattle.earth.specs.Minutes.{minutes_of};
+ghost use Rattle.whole.specs.Refusals.{number_of};
+ghost use Rattle.earth.specs.Calls.{angle_inside, epoch_inside, epoch_of};
 ghost use Rattle.earth.specs.Promises.{LaterPromise, ArgumentsPromise, TidePromise, AnglePromise, RotatePromise};
 
 use fields::ranges::{MILLISECOND, MJD, Range, TAI_UTC, inside};
@@ -17,9 +21,10 @@ use ticks::arguments_at;
 use time::ADDED;
 pub use time::Epoch;
 use turn::{MICROSECOND, turn_of};
-use whole::Number;
 use whole::long::rotation_ticks;
+use whole::{Number, Refusal};
 
+// C reads the three answers as they stand, the refusal's number first; inside it is a `Refusal`.
 #[repr(C)]
 #[derive(Drop)]
 pub struct EpochAnswer {
@@ -50,11 +55,25 @@ pub struct AngleAnswer {
     pub tick: u32,
 }
 
-// Whether the day and the millisecond are in the ranges of their file fields, and `more` in its own.
-fn epoch_ok(day: i64, ms: i64, more: i64, range: Range) -> bool
-    ensures { result ≡ epoch_inside range day ms more }
+// The epoch that a call asks for, unless it, or `more` by its own range, is refused. C hands over the three numbers one by one.
+fn asked(day: i64, ms: i64, more: i64, range: Range) -> Result<Epoch, Refusal>
+    ensures ok { IfOk result (λ e. (e ≡ epoch_of day ms) × Holds mjd e.day × Holds range more × (epoch_inside range day ms more ≡ true)) }
+    ensures err { IfErr result (λ r. (number_of r ≡ 2) × (epoch_inside range day ms more ≡ false)) }
 {
-    inside(MJD, day) && (inside(MILLISECOND, ms) && inside(range, more))
+    if inside(MJD, day) && inside(MILLISECOND, ms) && inside(range, more) {
+        Ok(Epoch { day, ms })
+    } else {
+        Err(Refusal::Range)
+    }
+}
+
+// The minutes of TT at an epoch, where TAI-UTC is `tai` seconds.
+fn minutes_asked(day: i64, ms: i64, tai: i64) -> Result<i64, Refusal>
+    ensures ok { IfOk result (λ n. (n ≡ minutes_of (epoch_of day ms) tai) × (∣ n ∣ < 2 ^ 26) × (epoch_inside taiutc day ms tai ≡ true)) }
+    ensures err { IfErr result (λ r. (number_of r ≡ 2) × (epoch_inside taiutc day ms tai ≡ false)) }
+{
+    let e = asked(day, ms, tai, TAI_UTC)?;
+    Ok(e.minutes(tai))
 }
 
 // The epoch that is `add` milliseconds later.
@@ -62,18 +81,20 @@ fn epoch_ok(day: i64, ms: i64, more: i64, range: Range) -> bool
 pub fn later(day: i64, ms: i64, add: i64) -> EpochAnswer
     ensures { LaterPromise day ms add result }
 {
-    if epoch_ok(day, ms, add, ADDED) {
-        let e = Epoch { day: day, ms: ms }.later(add);
-        return EpochAnswer {
-            refusal: 0,
-            day: e.day,
-            ms: e.ms,
-        };
-    }
-    EpochAnswer {
-        refusal: 2,
-        day: 0,
-        ms: 0,
+    match asked(day, ms, add, ADDED) {
+        Ok(e) => {
+            let e = e.later(add);
+            EpochAnswer {
+                refusal: 0,
+                day: e.day,
+                ms: e.ms,
+            }
+        }
+        Err(r) => EpochAnswer {
+            refusal: r.number(),
+            day: 0,
+            ms: 0,
+        },
     }
 }
 
@@ -82,27 +103,28 @@ pub fn later(day: i64, ms: i64, add: i64) -> EpochAnswer
 pub fn arguments(day: i64, ms: i64, tai: i64) -> TicksAnswer
     ensures { ArgumentsPromise day ms tai result }
 {
-    if epoch_ok(day, ms, tai, TAI_UTC) {
-        let n = Epoch { day: day, ms: ms }.minutes(tai);
-        let a = arguments_at(n);
-        return TicksAnswer {
-            refusal: 0,
-            n: n,
-            l: a.l,
-            lp: a.lp,
-            f: a.f,
-            d: a.d,
-            om: a.om,
-        };
-    }
-    TicksAnswer {
-        refusal: 2,
-        n: 0,
-        l: 0,
-        lp: 0,
-        f: 0,
-        d: 0,
-        om: 0,
+    match minutes_asked(day, ms, tai) {
+        Ok(n) => {
+            let a = arguments_at(n);
+            TicksAnswer {
+                refusal: 0,
+                n,
+                l: a.l,
+                lp: a.lp,
+                f: a.f,
+                d: a.d,
+                om: a.om,
+            }
+        }
+        Err(r) => TicksAnswer {
+            refusal: r.number(),
+            n: 0,
+            l: 0,
+            lp: 0,
+            f: 0,
+            d: 0,
+            om: 0,
+        },
     }
 }
 
@@ -111,17 +133,7 @@ pub fn arguments(day: i64, ms: i64, tai: i64) -> TicksAnswer
 pub fn tide(day: i64, ms: i64, tai: i64) -> Number
     ensures { TidePromise day ms tai result }
 {
-    if epoch_ok(day, ms, tai, TAI_UTC) {
-        let n = Epoch { day: day, ms: ms }.minutes(tai);
-        return Number {
-            refusal: 0,
-            value: tide_at_minute(n),
-        };
-    }
-    Number {
-        refusal: 2,
-        value: 0,
-    }
+    Number::from(minutes_asked(day, ms, tai).map(tide_at_minute))
 }
 
 // Whether the day and f are in their ranges.
@@ -145,7 +157,7 @@ pub fn angle_at(day: i64, f: i64) -> AngleAnswer
         };
     }
     AngleAnswer {
-        refusal: 2,
+        refusal: Refusal::Range.number(),
         e: 0,
         tick: 0,
     }

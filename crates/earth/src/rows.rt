@@ -1,11 +1,10 @@
 // The rows of the tide in UT1, the angle of a row, and the sum over any rows.
-ghost use Rattle.std.specs.Prelude.{◌≡◌, ◌+◌, ◌*◌, ◌%◌, ◌^◌, ◌<◌, ◌≤◌, pos, ◌+ℤ◌, ◌*ℤ◌};
+ghost use Rattle.std.specs.Prelude.{◌≡◌, ℕ, ◌+◌, ◌^◌, ◌<◌, ◌≤◌, pos, ◌+ℤ◌, ◌*ℤ◌};
 ghost use Rattle.whole.specs.Whole.{∣◌∣, mod_z};
 ghost use Rattle.earth.specs.Rows.{rows};
 ghost use Rattle.earth.specs.TideInUT1.{amplitude, row_angle_rule, row_term_rule, rows_sum, sizes, Few, AllFew, tide_at};
 
 use crate::ticks::{Delaunay, arguments_at};
-use std::num::{wrapping_add_u32, wrapping_sub_u32};
 use whole::divide::round_div;
 use whole::sign::size;
 
@@ -54,41 +53,27 @@ const TABLE: [[i64; 6]; 41] = [
     [-1, -1, 0, 2, 0, -9],
 ];
 
-// The sum with an argument added as often as asked, wrapping at 2^32.
-fn plus(sum: u32, times: u64, argument: u32) -> u32
-    ensures { result ≡ (sum + times * argument) % 2 ^ 32 }
+// The sum after so many steps. A column is worked by additions, or by subtractions, and by no product (document 02, L5).
+fn stepped<F: Fn(u32) -> u32>(sum: u32, times: u64, step: F) -> u32
+    requires { F.IsAlwaysCallable step }
+    ensures { (at : ℕ → ℕ) → at 0 ≡ sum → ((i next : ℕ) → F.post step (at i) next → next ≡ at (i + 1)) → result ≡ at times }
 {
     let mut sum = sum;
-    let mut i = 0;
-    while i < times {
-        sum = wrapping_add_u32(sum, argument);
-        i += 1;
-    }
-    sum
-}
-
-// The sum with an argument subtracted as often as asked, wrapping at 2^32.
-fn minus(sum: u32, times: u64, argument: u32) -> u32
-    ensures { (result + times * argument) % 2 ^ 32 ≡ sum }
-{
-    let mut sum = sum;
-    let mut i = 0;
-    while i < times {
-        sum = wrapping_sub_u32(sum, argument);
-        i += 1;
+    for _ in 0..times {
+        sum = step(sum);
     }
     sum
 }
 
 // The sum with one column more: its argument added as often as the multiplier says, or subtracted as often where that is negative.
-// Each branch takes the size by itself: the compiler then finds one product for both.
+// Each branch takes the size by itself, and each closure the argument: the compiler then finds one product for both.
 fn with_column(sum: u32, multiplier: i64, argument: u32) -> u32
     ensures { result ≡ mod_z (pos sum +ℤ multiplier *ℤ pos argument) (2 ^ 32) }
 {
     if multiplier < 0 {
-        minus(sum, size(multiplier), argument)
+        stepped(sum, size(multiplier), move |sum| sum.wrapping_sub(argument))
     } else {
-        plus(sum, size(multiplier), argument)
+        stepped(sum, size(multiplier), move |sum| sum.wrapping_add(argument))
     }
 }
 
@@ -119,11 +104,9 @@ pub fn rows_sum(rows: &[[i64; 6]], a: Delaunay) -> i64
     requires { AllFew rows.now × (sizes rows.now ≤ 2 ^ 31) }
     ensures { result ≡ rows_sum rows.now a }
 {
-    let mut sum: i64 = 0;
-    let mut i = 0;
-    while i < rows.len() {
-        sum += row_term(rows[i], a);
-        i += 1;
+    let mut sum = 0;
+    for row in rows {
+        sum += row_term(*row, a);
     }
     sum
 }

@@ -28,7 +28,7 @@ const TURN: u64 = 100_000_000_000_000_000;
 // floors, 10·12,500,000,000,000 and 342,226,488,750, modulo a turn.
 const AT_START: u64 = 27_683_252_762_116_830;
 
-// E, counted from there. Nothing is below 0, and both floors move by a whole number.
+// E, counted from there. Nothing is below 0, which the check of each cast proves, and both floors move by a whole number.
 pub fn turn_of(day: i64, f: i64) -> u64
     requires { Holds mjd day × Holds microsecond f }
     ensures { result ≡ e_of day f }

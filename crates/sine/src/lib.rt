@@ -43,8 +43,7 @@ fn s_of(r: u64) -> u64
     let h3 = step(z, h4, 42);
     let h2 = step(z, h3, 20);
     let h1 = step(z, h2, 6);
-    let s = y * h1 / 1073741824;
-    if s < 1073741824 { s } else { 1073741824 }
+    (y * h1 / 1073741824).min(1073741824)
 }
 
 // What is left of a quarter after r where it runs back, and r where it does not.
@@ -60,14 +59,15 @@ pub fn sine(a: u32) -> i64
     ensures { SinePromise a result }
 {
     let q = a / 1073741824;
-    let r = (a % 1073741824) as u64;
+    let r = u64::from(a % 1073741824);
     let t = turned(q % 2 == 1, r);
     with_sign(q >= 2, s_of(t))
 }
 
 // The cosine of a tick, scaled by 2^30.
+#[tactic(auto, unfolding(crate::specs::Sine::cosine_of))]
 pub fn cosine(a: u32) -> i64
     ensures { CosinePromise a result }
 {
-    sine(std::num::wrapping_add_u32(a, 1073741824))
+    sine(a.wrapping_add(1073741824))
 }

@@ -15,7 +15,8 @@ use Rattle.earth.proofs.TideInUT1.{tide_most}
 use Rattle.fields.specs.Ranges.{Holds, pole, ut1utc, millisecond}
 use Rattle.fields.specs.Records.{InDay}
 use Rattle.fields.specs.declared.Day.{Day}
-use Rattle.wave.specs.Bounds.{InRecord, InEarth}
+use Rattle.wave.specs.Bounds.{InRecord}
+use Rattle.wave.specs.Values.{InEarth}
 use Rattle.wave.specs.DayValues.{tide_in, ut1r_of, leap_of, ut1_line, ut1_used_rule, f_of, earth_of}
 use Rattle.wave.specs.Keeping.{reduced_of}
 

@@ -14,7 +14,8 @@ use Rattle.fields.specs.declared.Source.{Source}
 use Rattle.wave.specs.declared.plane.Baseline.{Baseline}
 use Rattle.wave.specs.declared.plane.Turn.{Turn}
 use Rattle.wave.specs.declared.values.Earth.{Earth}
-use Rattle.wave.specs.Bounds.{InEarth, Short, Shifted, Turned}
+use Rattle.wave.specs.Bounds.{Shifted}
+use Rattle.wave.specs.Values.{InEarth, Short, Turned}
 use Rattle.wave.specs.PlaneWave.{shift_of, shifted_of, hour_angle, tick_of, turn_of, equatorial, along_source, wave_of}
 use Rattle.wave.specs.Delays.{baseline_of, angle_for_rule, delay_between}
 

@@ -1,5 +1,5 @@
 -- What the code keeps from one epoch to the next: what is fixed in a pass, a day's record with its tide taken away, and the tide of a minute of TT.
-use Rattle.std.specs.Prelude.{◌≡◌, ℤ, pos}
+use Rattle.std.specs.Prelude.{ℤ, pos}
 use Rattle.earth.specs.TideInUT1.{tide_at}
 use Rattle.fields.specs.declared.Station.{Station}
 use Rattle.fields.specs.declared.Source.{Source}
@@ -17,10 +17,6 @@ reduced_of r = record { mjd = r.mjd; x = r.x; y = r.y; ut1_utc = ut1r_of r; tai_
 
 abbrev pub minute_of : ℤ → Minute
 minute_of n = record { n = n; tide = tide_at n }
-
--- what is kept is the tide of its minute
-pub record TrueMinute (m : Minute) : Type 0 where
-  pub tide_is : m.tide ≡ tide_at m.n
 
 -- what is fixed in a pass
 unfoldable pub sight_of : Station → Station → Source → Sight

@@ -1,3 +1,4 @@
+pub mod Values
 pub mod Bounds
 pub mod DayValues
 pub mod Delays

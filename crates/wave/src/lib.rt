@@ -6,12 +6,13 @@ pub mod values;
 
 ghost use Rattle.std.specs.Prelude.{◌≡◌};
 ghost use Rattle.fields.specs.Records.{InSource, InStation};
-ghost use Rattle.wave.specs.Bounds.{InEarth, InSight, Short};
+ghost use Rattle.wave.specs.Values.{Short};
 ghost use Rattle.wave.specs.Delays.{angle_for_rule, baseline_of};
 ghost use Rattle.wave.specs.Keeping.{delay_seen_rule, sight_of};
 
 use fields::{Source, Station};
 use plane::{Baseline, Turn, delay_at, tick, turn_by};
+use std::marker::Model;
 use values::Earth;
 
 // What is fixed in a pass: the baseline, the source, its right ascension as a tick, and the cosine and the sine of its declination.
@@ -21,6 +22,18 @@ pub struct Sight {
     pub source: Source,
     pub right_ascension: u32,
     pub declination: Turn,
+}
+
+impl Model for Sight {
+    ghost use Rattle.wave.specs.Values.{Fixed, Short};
+
+    ghost Value = { Fixed };
+
+    ghost view = { λ a. record { baseline = a.baseline; source = a.source; right_ascension = a.right_ascension; declination = a.declination } };
+
+    ghost inverse = { λ v. record { baseline = v.baseline; source = v.source; right_ascension = v.right_ascension; declination = v.declination } };
+
+    ghost invariant = { λ a. Short a.baseline };
 }
 
 // Station 2 less station 1.
@@ -38,7 +51,7 @@ fn between(a: Station, b: Station) -> Baseline
 // The sight from two stations to a source.
 pub fn sight_of(a: Station, b: Station, r: Source) -> Sight
     requires { InStation a × InStation b × InSource r }
-    ensures { (result ≡ sight_of a b r) × InSight result }
+    ensures { result ≡ sight_of a b r }
 {
     Sight {
         baseline: between(a, b),
@@ -57,9 +70,8 @@ fn angle_for(r: Source, e: Earth) -> u32
 
 // The delay in picoseconds along a sight, with the earth as it is at an epoch.
 pub fn delay_seen(v: Sight, e: Earth) -> i64
-    requires { InSight v × InEarth e }
     ensures { result ≡ delay_seen_rule v e }
 {
-    let h = std::num::wrapping_sub_u32(angle_for(v.source, e), v.right_ascension);
+    let h = angle_for(v.source, e).wrapping_sub(v.right_ascension);
     delay_at(v.baseline, e.x, e.y, h, v.declination)
 }

@@ -40,4 +40,4 @@ returns-then-angle_ok c =
 
 pub returns : goal.returns
 unfolding given angle_outcome
-returns c = simp (sym (ok_is (goal.at.returns c).After-angle_ok) ∙ c.if-angle_ok.false)
+returns c = simp (sym (ok_is (goal.at.returns c).After-angle_ok) ∙ c.if-angle_ok.false, c.number.ensures)

@@ -1,5 +1,5 @@
 -- `sine::sine` meets its contract. Assumes nothing.
-use Rattle.std.proofs.Common.{ℕ, ◌/◌, ◌%◌, ◌^◌, Bool, eqb, leb, ap, ◌∙◌, arith, eqb-true, leb-false, leb-true}
+use Rattle.std.proofs.Common.{ℕ, ◌-◌, ◌/◌, ◌%◌, ◌^◌, Bool, cond, eqb, leb, ap, ◌∙◌, arith, eqb-true, leb-false, leb-true}
 use borrow.Author.Tests.{eqb-false}
 use Rattle.whole.proofs.Linear.{ret}
 use Rattle.whole.specs.Whole.{sign_of}
@@ -23,7 +23,7 @@ returns c =
     let a = c.args.a in
     ret c.with_sign.result c.with_sign.type_inv
     ∙ c.with_sign.ensures
-    ∙ ap (λ (m : ℕ). sign_of (negative a) m) (c.s_of.ensures ∙ ap S c.turned-t.ensures.0)
+    ∙ ap (λ (m : ℕ). sign_of (negative a) m) (c.s_of.ensures ∙ ap S (c.turned-t.ensures.0 ∙ ap (λ (r : ℕ). cond (back a) (2 ^ 30 - r) r) c.from-r.ensures))
     ∙ sine_by a (negative a) (back a) (omega arith)
     (λ t. omega (arith, leb-true, t))
     (λ t. omega (arith, leb-false, t))

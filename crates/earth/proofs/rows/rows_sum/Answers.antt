@@ -22,7 +22,7 @@ module _ (c : After-row_term-sum) where
   a = c.args.a
 
   abbrev i : ℕ
-  i = c.loop-i.i
+  i = c.loop-row.row-index
 
   abbrev so_far : ℤ
   so_far = rows_sum (take i rs) a
@@ -31,26 +31,26 @@ module _ (c : After-row_term-sum) where
   next =
       var so_far (2 ^ 61) (first_most rs i a c.requires.1)
       ⊞ var c.row_term-sum.result (2 ^ 61)
-      (rw c.row_term-sum.ensures (omega (arith, term-most (get_or rs i []) a, size_at rs i c.loop-i-test.true, c.requires.1)))
+      (rw c.row_term-sum.ensures (omega (arith, term-most (get_or rs i []) a, size_at rs i c.loop-row-test.true, c.requires.1)))
 
   -- what the machine has of the sum so far
-  held : to_z w64 c.loop-i.sum-bits ≡ to_z w64 (of_z w64 so_far)
-  held = c.loop-i.invariant.1 ∙ sym (back (abs_fits (omega (arith, first_most rs i a c.requires.1))))
+  held : to_z w64 c.loop-row.sum-bits ≡ to_z w64 (of_z w64 so_far)
+  held = c.loop-row.invariant ∙ sym (back (abs_fits (omega (arith, first_most rs i a c.requires.1))))
 
-pub loop-i-init : goal.loop-i-init
-loop-i-init c = (omega arith, sym (sum_none c.args.a))
+pub loop-row-init : goal.loop-row-init
+loop-row-init c = sym (sum_none c.args.a)
 
 pub row_term-sum-requires : goal.row_term-sum-requires
 row_term-sum-requires c =
-    let i = c.loop-i.i in
-    let h = c.loop-i-test.true in
+    let i = c.loop-row.row-index in
+    let h = c.loop-row-test.true in
     (c.requires.0 i h, omega (arith, c.requires.1, size_at c.args.rows.now i h))
 
 pub overflow_add-sum : goal.overflow_add-sum
 overflow_add-sum c = let d = (goal.at.overflow_add-sum c).After-row_term-sum in rw (held d) (ok (next d) tt)
 
-pub loop-i-preserved : goal.loop-i-preserved
-loop-i-preserved c =
-    let d = (goal.at.loop-i-preserved c).After-row_term-sum in
-    let more = is (next d) tt ∙ ap (λ (z : ℤ). so_far d +ℤ z) c.row_term-sum.ensures ∙ sym (sum_more (rs d) (i d) (a d) c.loop-i-test.true) in
-    (omega arith, rw (held d) more)
+pub loop-row-preserved : goal.loop-row-preserved
+loop-row-preserved c =
+    let d = (goal.at.loop-row-preserved c).After-row_term-sum in
+    let more = is (next d) tt ∙ ap (λ (z : ℤ). so_far d +ℤ z) c.row_term-sum.ensures ∙ sym (sum_more (rs d) (i d) (a d) c.loop-row-test.true) in
+    rw (held d) more

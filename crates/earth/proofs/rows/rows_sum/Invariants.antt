@@ -1,10 +1,7 @@
--- The invariant: the sum is that over the first i rows.
-use Rattle.std.proofs.Common.{◌≡◌, ◌-◌, ◌≤◌, length, take}
+-- The invariant: the sum is that over the rows so far.
+use Rattle.std.proofs.Common.{◌≡◌, take}
 use Rattle.earth.specs.TideInUT1.{rows_sum}
 use Rattle.earth.proofs.rows.rows_sum.Given as goal
 
-abbrev pub invariant-loop-i : goal.invariant-loop-i
-invariant-loop-i l = (l.i ≤ length l.rows) × (l.sum ≡ rows_sum (take l.i l.rows) l.a)
-
-abbrev pub decreases-loop-i : goal.decreases-loop-i
-decreases-loop-i l = length l.rows - l.i
+abbrev pub invariant-loop-row : goal.invariant-loop-row
+invariant-loop-row l = l.sum ≡ rows_sum (take l.row-index l.rows) l.a

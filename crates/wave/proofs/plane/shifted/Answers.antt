@@ -3,7 +3,7 @@ use Rattle.std.proofs.Common.{ℤ, ◌+ℤ◌, ◌-ℤ◌, ap, ◌∙◌}
 use Rattle.whole.proofs.Machine.{M, var, ◌⊞◌, ◌⊟◌, val, bounded, ok, is}
 use Rattle.earth.proofs.Floors.{leaf}
 use Rattle.wave.specs.declared.plane.Baseline.{Baseline}
-use Rattle.wave.specs.Bounds.{Short}
+use Rattle.wave.specs.Values.{Short}
 use Rattle.wave.specs.PlaneWave.{shift_of, shifted_of}
 use Rattle.wave.proofs.plane.shifted.Goals as goal
 

@@ -1,22 +1,21 @@
 -- `wave::plane::turn_by` meets its contract.
-use Rattle.std.proofs.Common.{◌≡◌, ℕ, ℤ, sym, ◌∙◌, subst}
+use Rattle.std.proofs.Common.{◌≡◌, ◌∙◌, w64, to_z, of_z}
 use Rattle.whole.proofs.Linear.{ret}
-use Rattle.sine.specs.Sine.{sine_of, cosine_of}
-use Rattle.wave.specs.declared.plane.Turn.{Turn}
-use Rattle.wave.specs.Bounds.{Turned}
 use Rattle.wave.specs.PlaneWave.{turn_of}
 use Rattle.wave.proofs.Sizes.{turn_size}
 use Rattle.wave.proofs.plane.turn_by.Goals as goal
 
--- a turn by its two numbers
-by_both : {c s : ℤ} (t : ℕ) → c ≡ cosine_of t → s ≡ sine_of t → (◌≡◌ {A = Turn} (record { cos = c; sin = s }) (turn_of t)) × Turned (record { cos = c; sin = s })
+pub invariant_of-result : goal.invariant_of-result
 unfolding turn_of
-by_both t p q =
-    let e : ◌≡◌ {A = Turn} (record { cos = _; sin = _ }) (turn_of t) = λ i. record { cos = p i; sin = q i } in
-    (e, subst Turned (sym e) (turn_size t))
-
-pub returns : goal.returns
-returns c =
+invariant_of-result c =
+    let size = turn_size c.args.t in
     let cos = ret c.cosine.result c.cosine.type_inv ∙ c.cosine.ensures in
     let sin = ret c.sine.result c.sine.type_inv ∙ c.sine.ensures in
-    by_both c.args.t cos sin
+    record { cos_size = rw cos size.cos_size; sin_size = rw sin size.sin_size }
+
+pub returns : goal.returns
+unfolding turn_of
+returns c =
+    let cosine-is = ret c.cosine.result c.cosine.type_inv ∙ c.cosine.ensures in
+    let sine-is = ret c.sine.result c.sine.type_inv ∙ c.sine.ensures in
+    λ i. record { cos = cosine-is i; sin = sine-is i }

@@ -8,7 +8,9 @@ use Rattle.whole.proofs.Quote.{⟨◌⟩, #, ◌⊕◌, ◌⊝◌, ◌⊗◌, by
 use Rattle.sine.specs.Sine.{sine_of, cosine_of}
 use Rattle.wave.specs.declared.plane.Baseline.{Baseline}
 use Rattle.wave.specs.declared.plane.Turn.{Turn}
-use Rattle.wave.specs.Bounds.{Shifted, Turned}
+use Rattle.wave.specs.contracts.plane.Turn.{the_view}
+use Rattle.wave.specs.Bounds.{Shifted}
+use Rattle.wave.specs.Values.{Turned}
 use Rattle.wave.specs.PlaneWave.{turn_of, equatorial, along_source, wave_of}
 use Rattle.wave.proofs.Sizes.{equatorial_size, along_size}
 use Rattle.wave.proofs.plane.wave.Goals as goal
@@ -52,48 +54,37 @@ g-is b h d p g e f = f ∙ simp e
 abbrev big_g : (b : Baseline) (h : ℕ) (d : Turn) (g : ℤ) → Shifted b → Turned d → g ≡ along_source b h d → M
 big_g b h d g k l e = lit (pos 0) ⊟ var g 38400248228 (rw e (along_size b h d k l))
 
--- the goals up to P
-pub overflow_sub-b : goal.overflow_sub-b
-overflow_sub-b c = ok (lit (pos 0) ⊟ by c.args.b c.requires.0) tt
-
-pub turned-p-requires : goal.turned-p-requires
-turned-p-requires c =
-    let x = bx c.args.b c.requires.0 in
-    let y = lit (pos 0) ⊟ by c.args.b c.requires.0 in
-    let u = cos c.turn_by-t.result c.turn_by-t.ensures.1 in
-    let v = sin c.turn_by-t.result c.turn_by-t.ensures.1 in
-    simp (is x tt, is y tt, is u tt, is v tt) (le_trans (bounded x) (lit≤ tt), le_trans (bounded y) (lit≤ tt), bounded u, bounded v)
-
 -- G is taken from P
 pub turned-g-requires : goal.turned-g-requires
 turned-g-requires c =
     let b = c.args.b in
-    let d = c.args.d in
-    let t = c.turn_by-t in
-    let e = simp (is (bx b c.requires.0) tt, is (lit (pos 0) ⊟ by b c.requires.0) tt, is (cos t.result t.ensures.1) tt, is (sin t.result t.ensures.1) tt) at c.turned-p.ensures in
-    let p = big_p b c.args.h c.turned-p.result c.requires.0 (p-is b c.args.h t.result c.turned-p.result t.ensures.0 e) in
-    let z = bz b c.requires.0 in
-    let u = cos d c.requires.1 in
-    let v = sin d c.requires.1 in
+    let d = the_view c.d.inside in
+    let t = the_view c.t.inside in
+    let e = simp (is (bx b c.requires) tt, is (lit (pos 0) ⊟ by b c.requires) tt, is (cos t c.t.invariant) tt, is (sin t c.t.invariant) tt) at c.turned-p.ensures in
+    let p = big_p b c.args.h c.turned-p.result c.requires (p-is b c.args.h t c.turned-p.result (c.t.view_is ∙ c.turn_by-t.ensures) e) in
+    let z = bz b c.requires in
+    let u = cos d c.d.invariant in
+    let v = sin d c.d.invariant in
     simp (is p tt, is z tt, is u tt, is v tt) (le_trans (bounded p) (lit≤ tt), le_trans (bounded z) (lit≤ tt), bounded u, bounded v)
 
 -- what the two calls gave is the G of the baseline
-along-is : (c : goal.After-turned-g) → c.turned-g.result ≡ along_source c.args.b c.args.h c.args.d
+along-is : (c : goal.After-turned-g) → c.turned-g.result ≡ along_source c.args.b c.args.h (the_view c.d.inside)
 along-is c =
-    let k = c.requires.0 in
-    let l = c.requires.1 in
-    let s = c.turn_by-t in
-    let f = simp (is (bx c.args.b k) tt, is (lit (pos 0) ⊟ by c.args.b k) tt, is (cos s.result s.ensures.1) tt, is (sin s.result s.ensures.1) tt) at c.turned-p.ensures in
-    let ep = p-is c.args.b c.args.h s.result c.turned-p.result s.ensures.0 f in
+    let k = c.requires in
+    let l = c.d.invariant in
+    let n = the_view c.d.inside in
+    let s = the_view c.t.inside in
+    let f = simp (is (bx c.args.b k) tt, is (lit (pos 0) ⊟ by c.args.b k) tt, is (cos s c.t.invariant) tt, is (sin s c.t.invariant) tt) at c.turned-p.ensures in
+    let ep = p-is c.args.b c.args.h s c.turned-p.result (c.t.view_is ∙ c.turn_by-t.ensures) f in
     let m = big_p c.args.b c.args.h c.turned-p.result k ep in
     let z = bz c.args.b k in
-    let u = cos c.args.d l in
-    let v = sin c.args.d l in
+    let u = cos n l in
+    let v = sin n l in
     let eg = simp (is m tt, is z tt, is u tt, is v tt) at c.turned-g.ensures in
-    g-is c.args.b c.args.h c.args.d c.turned-p.result c.turned-g.result ep eg
+    g-is c.args.b c.args.h n c.turned-p.result c.turned-g.result ep eg
 
 abbrev g : goal.After-turned-g → M
-g c = big_g c.args.b c.args.h c.args.d c.turned-g.result c.requires.0 c.requires.1 (along-is c)
+g c = big_g c.args.b c.args.h (the_view c.d.inside) c.turned-g.result c.requires c.d.invariant (along-is c)
 
 -- the goals behind G
 pub overflow_sub-g : goal.overflow_sub-g
@@ -109,4 +100,5 @@ returns c =
     ret c.light_time.result c.light_time.type_inv
     ∙ rw (is (g k) tt) at c.light_time.ensures
     ∙ ap (λ (z : ℤ). R (z *ℤ pos 1000000000) 299792458)
-    (ap (λ (z : ℤ). pos 0 -ℤ z) (along-is k) ∙ +ℤ_idl (neg_ℤ (along_source c.args.b c.args.h c.args.d)))
+    (ap (λ (z : ℤ). pos 0 -ℤ z) (along-is k) ∙ +ℤ_idl (neg_ℤ (along_source c.args.b c.args.h (the_view c.d.inside))))
+    ∙ ap (λ (t : Turn). wave_of c.args.b c.args.h t) c.d.view_is
