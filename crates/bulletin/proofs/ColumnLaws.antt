@@ -11,13 +11,20 @@ use lib.Seq.{length-take-le}
 use Rattle.whole.specs.Whole.{∣◌∣}
 use Rattle.whole.proofs.Linear.{and_true}
 use Rattle.whole.proofs.Tests.{no_and}
-use Rattle.bulletin.specs.declared.layout.Columns.{Columns}
-use Rattle.bulletin.specs.Columns.{mjd_columns, x_columns, y_columns, ut1_columns, bytes_in, holds_decimal_rule, value_in_rule}
+use Rattle.bulletin.specs.Columns.{Place, columns, mjd_columns, x_columns, y_columns, ut1_columns, bytes_in, holds_decimal_rule, value_in_rule}
 use Rattle.bulletin.specs.Decimals.{is_decimal_rule}
-use Rattle.bulletin.specs.Code.{Apt}
 use Rattle.bulletin.proofs.FormLaws.{units_small}
 
-module _ {c : Columns} (a : Apt c) (row : List ℕ) where
+-- columns that can hold a decimal of at most 10 bytes, as `Columns` of the code says of each of its values
+pub record Apt (c : Place) : Type 0 where
+  pub counted : 1 ≤ c.first
+  pub wide : c.first + c.decimals < c.last
+  pub narrow : c.last ≤ c.first + 9
+
+pub apt : {a b p : ℕ} → 1 ≤ a → a + p < b → b ≤ a + 9 → Apt (columns a b p)
+apt h w n = record { counted = h; wide = w; narrow = n }
+
+module _ {c : Place} (a : Apt c) (row : List ℕ) where
   pub bytes_are : take (c.last - (c.first - 1)) (drop (c.first - 1) row) ≡ bytes_in c row
   bytes_are = let e : c.last - (c.first - 1) ≡ suc c.last - c.first = omega (arith, a.counted, a.wide) in ap (λ (n : ℕ). take n (drop (c.first - 1) row)) e
 

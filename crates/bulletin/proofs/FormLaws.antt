@@ -1,17 +1,20 @@
 -- What is proved of the form of a decimal, as the code reads it. Assumes nothing.
-use mathlib.Core.Path.{◌≡◌, refl, ap, ◌∙◌}
+use mathlib.Core.Path.{◌≡◌, refl, sym, ap, ◌∙◌}
 use mathlib.Core.Bool.{Bool, true, false}
 use mathlib.Core.List.{List, [], ◌∷◌}
 use Prim.Native.Nat.{ℕ, zero, suc, ◌+◌, ◌-◌, ◌*◌, ◌^◌, ◌≤◌, ◌<◌}
 use native.Mathlib.Nat.{add-zero, zero-add, pow-le-pow_right}
 use native.Mathlib.Numerals.{add-one}
 use native.Mathlib.Omega.{arith}
-use borrow.Author.Tests.{eq-eqb, ne_eqb, lt-ltb, ltb-true, eqb-true}
+use native.Mathlib.Decide.{dec_lt}
+use borrow.Author.Tests.{eq-eqb, ne_eqb, ltb-true, eqb-true}
 use lib.Dec.{eqb, ltb}
 use lib.ListN.{length, get_or, take, drop, length-take, length-drop}
 use lib.Seq.{drop-cons, drop-length, take_all}
 use Rattle.whole.specs.Whole.{∣◌∣, sign_of}
-use Rattle.whole.proofs.Linear.{no_ft, and_true}
+use Rattle.whole.specs.Each.{first_not}
+use Rattle.whole.proofs.Each.{first-most, first_fails, first-before}
+use Rattle.whole.proofs.Linear.{no_ft, no_tf, and_true}
 use Rattle.bulletin.specs.Decimals.{past_blanks_rule, is_minus_rule, past_minus_rule, signed, whole_digits, decimals, is_decimal_rule, units_of_rule}
 use Rattle.text.specs.Decimal.{is_digit_rule, all_digits_rule, read_from_rule, read}
 use Rattle.text.proofs.Digits.{read-append}
@@ -40,6 +43,27 @@ module _ (s : List ℕ) (i : ℕ) (h : i < length s) where
 pub blanks_all : (s : List ℕ) → past_blanks_rule (drop (length s) s) ≡ drop (length s) s
 unfolding past_blanks_rule
 blanks_all s = rw drop-length
+
+-- behind the blanks stands the first byte that is none
+blanks_to : (s : List ℕ) (i : ℕ) → i ≤ first_not (length s) (λ (k : ℕ). eqb (get_or s k 0) 32) → past_blanks_rule (drop i s) ≡ past_blanks_rule s
+blanks_to s zero h = refl
+blanks_to s (suc i) h =
+    let p : ℕ → Bool = λ (k : ℕ). eqb (get_or s k 0) 32 in
+    let l : i < length s = omega (arith, h, first-most (length s) p) in
+    let e : get_or s i 0 ≡ 32 = eqb-true (get_or s i 0) 32 (first-before (length s) i p (omega (arith, h)) l) in
+    ap (λ (k : ℕ). past_blanks_rule (drop k s)) (sym (add-one i)) ∙ sym (blank_more s i l e) ∙ blanks_to s i (omega (arith, h))
+
+blanks_by : (s : List ℕ) (i : ℕ) → i ≡ first_not (length s) (λ (k : ℕ). eqb (get_or s k 0) 32) → Dec (i < length s) → past_blanks_rule (drop i s) ≡ drop i s
+blanks_by s i e (yes l) =
+    let p : ℕ → Bool = λ (k : ℕ). eqb (get_or s k 0) 32 in
+    let f : p i ≡ false = ap p e ∙ first_fails (length s) p (omega (arith, e, l)) in
+    blanks-end s i l (λ q. no_tf (sym (eq-eqb (get_or s i 0) 32 q) ∙ f))
+blanks_by s i e (no l) =
+    let m : i ≡ length s = omega (arith, l, e, first-most (length s) (λ (k : ℕ). eqb (get_or s k 0) 32)) in
+    rw m (blanks_all s)
+
+pub blanks_first : (s : List ℕ) (i : ℕ) → i ≡ first_not (length s) (λ (k : ℕ). eqb (get_or s k 0) 32) → drop i s ≡ past_blanks_rule s
+blanks_first s i e = sym (blanks_by s i e (dec_lt i (length s))) ∙ blanks_to s i (omega (arith, e))
 
 -- ---- the sign
 
@@ -70,32 +94,8 @@ minus_long (b ∷ s) e = omega arith
 -- ---- the columns about the point
 
 module _ (p : ℕ) (s : List ℕ) where
-  pub whole-none : length (whole_digits p s) ≡ 0 → is_decimal_rule p s ≡ false
-  unfolding is_decimal_rule
-  whole-none e = rw (e)
-
-  module _ (f : length (whole_digits p s) ≡ 0 → ⊥) where
-    some_digit : ltb 0 (length (whole_digits p s)) ≡ true
-    some_digit = lt-ltb 0 (length (whole_digits p s)) (omega (arith, f))
-
-    pub whole_no : all_digits_rule (whole_digits p s) ≡ false → is_decimal_rule p s ≡ false
-    unfolding is_decimal_rule
-    whole_no e = simp (some_digit, e)
-
-    module _ (g : all_digits_rule (whole_digits p s) ≡ true) where
-      pub point_no : (get_or s (length s - suc p) 0 ≡ 46 → ⊥) → is_decimal_rule p s ≡ false
-      unfolding is_decimal_rule
-      point_no e = simp (some_digit, g, ne_eqb (get_or s (length s - suc p) 0) 46 e)
-
-      pub point_yes : get_or s (length s - suc p) 0 ≡ 46 → is_decimal_rule p s ≡ all_digits_rule (decimals p s)
-      unfolding is_decimal_rule
-      point_yes e = simp (some_digit, g, eq-eqb (get_or s (length s - suc p) 0) 46 e)
-
   -- as the code cuts the columns
   module _ (h : p + 1 < length s) where
-    pub point_is : length s - p - 1 ≡ length s - suc p
-    point_is = omega arith
-
     pub front_is : take (length s - p - 1 - 0) s ≡ take (length s - suc p) s
     front_is = let e : length s - p - 1 - 0 ≡ length s - suc p = omega arith in ap (λ (n : ℕ). take n s) e
 

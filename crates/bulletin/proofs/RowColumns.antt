@@ -9,25 +9,23 @@ use lib.ListN.{length, get_or, drop, replicate, length-append, length-replicate,
 use lib.Seq.{get_or-take, get_or-drop, ext_get_or}
 use lib.IntN.{ℤ}
 use Rattle.text.proofs.Paste.{pasted-long}
-use Rattle.bulletin.specs.declared.layout.Columns.{Columns}
-use Rattle.bulletin.specs.Columns.{bytes_in, with_decimal}
-use Rattle.bulletin.specs.Code.{Apt}
+use Rattle.bulletin.specs.Columns.{Place, bytes_in, with_decimal}
 use Rattle.bulletin.specs.Decimals.{printed}
-use Rattle.bulletin.proofs.ColumnLaws.{bytes-long}
+use Rattle.bulletin.proofs.ColumnLaws.{Apt, bytes-long}
 use Rattle.bulletin.proofs.Pasting.{pasted-low, pasted_in, pasted_high, append_at}
 use Rattle.bulletin.proofs.Standing.{Narrow}
 
 -- ---- the bytes in columns of a row
 
 -- a row that goes as far as the columns do
-pub record Reaches (c : Columns) (row : List ℕ) : Type 0 where
+pub record Reaches (c : Place) (row : List ℕ) : Type 0 where
   pub apt : Apt c
   pub far : c.last ≤ length row
 
-abbrev width : Columns → ℕ
+abbrev width : Place → ℕ
 width c = suc c.last - c.first
 
-module _ (c : Columns) (row : List ℕ) (r : Reaches c row) where
+module _ (c : Place) (row : List ℕ) (r : Reaches c row) where
   long : length (bytes_in c row) ≡ width c
   long = bytes-long r.apt row r.far
 
@@ -35,7 +33,7 @@ module _ (c : Columns) (row : List ℕ) (r : Reaches c row) where
   byte_at i l = get_or-take (width c) (drop (c.first - 1) row) i 0 l ∙ get_or-drop (c.first - 1) row i 0
 
 -- rows that are the same in columns
-pub bytes_same : (c : Columns) (row other : List ℕ) → Reaches c row → Reaches c other
+pub bytes_same : (c : Place) (row other : List ℕ) → Reaches c row → Reaches c other
     → ((i : ℕ) → c.first - 1 ≤ i → i < c.last → get_or row i 0 ≡ get_or other i 0) → bytes_in c row ≡ bytes_in c other
 bytes_same c row other r s e =
     ext_get_or 0 (bytes_in c row) (bytes_in c other) (long c row r ∙ sym (long c other s))
@@ -45,7 +43,7 @@ bytes_same c row other r s e =
 
 -- ---- with a decimal put there
 
-module _ (c : Columns) (row : List ℕ) (z : ℤ) (r : Reaches c row) (n : Narrow c z) where
+module _ (c : Place) (row : List ℕ) (z : ℤ) (r : Reaches c row) (n : Narrow c z) where
   abbrev text : List ℕ
   text = printed c.decimals z
 
@@ -68,11 +66,11 @@ module _ (c : Columns) (row : List ℕ) (z : ℤ) (r : Reaches c row) (n : Narro
   unfolding with_decimal
   with_behind i l = pasted_high row at text fits i (omega (arith, n, r.apt))
 
-  with_reaches : (e : Columns) → Reaches e row → Reaches e (with_decimal c row z)
+  with_reaches : (e : Place) → Reaches e row → Reaches e (with_decimal c row z)
   with_reaches e s = record { apt = s.apt; far = omega (arith, s.far, with_long) }
 
   -- columns before these, or behind them
-  pub bytes_other : (e : Columns) → Reaches e row → (e.last < c.first) ⊎ (c.last < e.first) → bytes_in e (with_decimal c row z) ≡ bytes_in e row
+  pub bytes_other : (e : Place) → Reaches e row → (e.last < c.first) ⊎ (c.last < e.first) → bytes_in e (with_decimal c row z) ≡ bytes_in e row
   bytes_other e s =
       ⊎_elim
       (λ h. bytes_same e (with_decimal c row z) row (with_reaches e s) s (λ i l m. with_before i (omega (arith, h, m))))

@@ -13,8 +13,7 @@ use lib.IntN.{ℤ, pos, ◌*ℤ◌}
 use Rattle.whole.specs.Whole.{floor_z, mod_z}
 use Rattle.whole.proofs.Tests.{and_yes}
 use Rattle.fields.specs.declared.Day.{Day}
-use Rattle.bulletin.specs.declared.layout.Columns.{Columns}
-use Rattle.bulletin.specs.Columns.{mjd_columns, x_columns, y_columns, ut1_columns, bytes_in, holds_decimal_rule, value_in_rule}
+use Rattle.bulletin.specs.Columns.{Place, mjd_columns, x_columns, y_columns, ut1_columns, bytes_in, holds_decimal_rule, value_in_rule}
 use Rattle.bulletin.specs.Decimals.{is_decimal_rule, units_of_rule, printed}
 use Rattle.bulletin.specs.Rows.{has_day_rule, day_in_rule, is_filled_rule}
 use Rattle.bulletin.specs.Writing.{blank_row, row_for_rule, can_stand_rule}
@@ -28,12 +27,12 @@ use Rattle.bulletin.proofs.Standing.{stands_hundreds}
 
 -- ---- columns that show a number
 
-pub record Shows (c : Columns) (row : List ℕ) (z : ℤ) : Type 0 where
+pub record Shows (c : Place) (row : List ℕ) (z : ℤ) : Type 0 where
   pub k : ℕ
   pub far : c.last ≤ length row
   pub bytes : bytes_in c row ≡ blanks k ++ printed c.decimals z
 
-module _ {c : Columns} {row : List ℕ} {z : ℤ} (h : Shows c row z) where
+module _ {c : Place} {row : List ℕ} {z : ℤ} (h : Shows c row z) where
   shows_held : holds_decimal_rule c row ≡ true
   unfolding holds_decimal_rule
   shows_held = and_yes (le-leb c.last (length row) h.far) (ap (is_decimal_rule c.decimals) h.bytes ∙ (printed_is_read c.decimals h.k z).0)
@@ -49,7 +48,7 @@ module _ {c : Columns} {row : List ℕ} {z : ℤ} (h : Shows c row z) where
 -- ---- the row of a record, decimal by decimal
 
 -- columns that a decimal does not stand in are as they were
-module _ (d : Day) (e : can_stand_rule d ≡ true) (c : Columns) (o : OnLine c) where
+module _ (d : Day) (e : can_stand_rule d ≡ true) (c : Place) (o : OnLine c) where
   past_mjd : 15 < c.first → bytes_in c (first_row d) ≡ bytes_in c blank_row
   past_mjd h = bytes_other mjd_columns blank_row (pos 100 *ℤ d.mjd) (line_reaches mjd_columns blank_row mjd_on blank_line) (mjd-fits d e) c (line_reaches c blank_row o blank_line) (inr h)
 

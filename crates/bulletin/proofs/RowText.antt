@@ -17,12 +17,10 @@ use Rattle.text.specs.Decimal.{is_digit_rule, all_digits_rule, digits_of}
 use Rattle.text.proofs.Paste.{pasted-next}
 use Rattle.text.proofs.Reading.{digit_in, digits_all}
 use Rattle.fields.specs.declared.Day.{Day}
-use Rattle.bulletin.specs.declared.layout.Columns.{Columns}
-use Rattle.bulletin.specs.Columns.{mjd_columns, x_columns, y_columns, ut1_columns, with_decimal}
-use Rattle.bulletin.specs.Code.{Apt}
+use Rattle.bulletin.specs.Columns.{Place, mjd_columns, x_columns, y_columns, ut1_columns, with_decimal}
 use Rattle.bulletin.specs.Decimals.{last_digits, minus_of, printed}
 use Rattle.bulletin.specs.Writing.{blank_row, row_for_rule, can_stand_rule}
-use Rattle.bulletin.proofs.ColumnLaws.{mjd_apt, x_apt, y_apt, ut1_apt}
+use Rattle.bulletin.proofs.ColumnLaws.{Apt, mjd_apt, x_apt, y_apt, ut1_apt}
 use Rattle.bulletin.proofs.Pasting.{pasted-low, pasted_in, pasted_high, Each, each_none, each_more, each_both}
 use Rattle.bulletin.proofs.Printing.{last_all}
 use Rattle.bulletin.proofs.RowColumns.{Reaches, with_long, with_behind}
@@ -72,14 +70,14 @@ blank_line =
     }
 
 -- columns of such a line
-pub record OnLine (c : Columns) : Type 0 where
+pub record OnLine (c : Place) : Type 0 where
   pub apt : Apt c
   pub far : c.last ≤ 185
 
-pub line_reaches : (c : Columns) (row : List ℕ) → OnLine c → Line row → Reaches c row
+pub line_reaches : (c : Place) (row : List ℕ) → OnLine c → Line row → Reaches c row
 line_reaches c row o h = record { apt = o.apt; far = omega (arith, o.far, h.long) }
 
-module _ (c : Columns) (row : List ℕ) (z : ℤ) (o : OnLine c) (h : Line row) (n : Narrow c z) where
+module _ (c : Place) (row : List ℕ) (z : ℤ) (o : OnLine c) (h : Line row) (n : Narrow c z) where
   abbrev text : List ℕ
   text = printed c.decimals z
 

@@ -20,8 +20,7 @@ use Rattle.fields.specs.declared.Day.{Day}
 use Rattle.fields.specs.Ranges.{inside, mjd, pole, ut1utc, taiutc, mark, Holds}
 use Rattle.fields.specs.Records.{InDay}
 use Rattle.fields.proofs.Inside.{inside_holds}
-use Rattle.bulletin.specs.declared.layout.Columns.{Columns}
-use Rattle.bulletin.specs.Columns.{mjd_columns, ut1_columns}
+use Rattle.bulletin.specs.Columns.{Place, mjd_columns, ut1_columns}
 use Rattle.bulletin.specs.Decimals.{printed}
 use Rattle.bulletin.specs.Reading.{in_ranges_rule, day_count}
 use Rattle.bulletin.specs.Writing.{records_in, record_at_rule, list_right_rule, can_stand_rule}
@@ -88,7 +87,7 @@ module _ (numbers : List ℤ) (e : list_right_rule numbers ≡ true) where
 -- ---- the width of its decimals
 
 -- a number that is printed no wider than the columns are
-abbrev pub Narrow : Columns → ℤ → Type 0
+abbrev pub Narrow : Place → ℤ → Type 0
 Narrow c z = length (printed c.decimals z) ≤ suc c.last - c.first
 
 pole_size : (z : ℤ) → Holds pole z → ∣ z ∣ ≤ 1_000_000

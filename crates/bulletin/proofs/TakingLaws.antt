@@ -64,12 +64,12 @@ asked_from first (pos n) k h =
 
 -- ---- where all is ready, each day asked for has a row, and it is filled
 
-module _ {text : List ℕ} {dates : List ℤ} {starts : List ℕ} {first count : ℤ} (r : Ready text dates starts first count) (k : ℕ) (h : k < pos_part count) where
+module _ {text : List ℕ} {dates : List ℤ} {starts : List ℕ} (l : Listed text dates starts) {first count : ℤ} (r : Ready text first count) (k : ℕ) (h : k < pos_part count) where
   pub found : first_in_rule dates (first +ℤ pos k) < length dates
-  found = ltb-true (first_in_rule dates (first +ℤ pos k)) (length dates) (below_each (pos_part count) k _ h (there_by r.listed first count ∙ r.there))
+  found = ltb-true (first_in_rule dates (first +ℤ pos k)) (length dates) (below_each (pos_part count) k _ h (there_by l first count ∙ r.there))
 
   its_day : day_in_rule (row_at_rule text (first_in_rule dates (first +ℤ pos k))) ≡ first +ℤ pos k
-  its_day = sym (day_of_lem r.listed (first_in_rule dates (first +ℤ pos k)) found) ∙ first_is dates (first +ℤ pos k) found
+  its_day = sym (day_of_lem l (first_in_rule dates (first +ℤ pos k)) found) ∙ first_is dates (first +ℤ pos k) found
 
   pub filled : is_filled_rule (row_at_rule text (first_in_rule dates (first +ℤ pos k))) ≡ true
   unfolding taken_filled_rule
@@ -77,4 +77,4 @@ module _ {text : List ℕ} {dates : List ℤ} {starts : List ℕ} {first count :
       let i = first_in_rule dates (first +ℤ pos k) in
       let a : asked first count (day_in_rule (row_at_rule text i)) ≡ true = ap (asked first count) its_day ∙ asked_from first count k h in
       let f : first_in_rule dates (day_in_rule (row_at_rule text i)) ≡ i = ap (first_in_rule dates) its_day in
-      sym (if_taken r.listed first count i a f) ∙ below_each (length (rows_of text)) i _ (omega (arith, found, listed-long r.listed)) r.filled
+      sym (if_taken l first count i a f) ∙ below_each (length (rows_of text)) i _ (omega (arith, found, listed-long l)) r.filled

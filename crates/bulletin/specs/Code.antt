@@ -1,17 +1,12 @@
 -- What only the inner steps of the code need; no public promise cites it.
-use Rattle.std.specs.Prelude.{◌≡◌, true, cond, List, ℕ, ◌+◌, ◌-◌, ◌≤◌, ◌<◌, ℤ, pos, length, get_or, take, drop}
-use Rattle.bulletin.specs.declared.layout.Columns.{Columns}
+use Rattle.std.specs.Prelude.{◌≡◌, true, cond, List, Result, Ok, Err, ℕ, ◌+◌, ◌-◌, ◌≤◌, ◌<◌, ℤ, pos, length, get_or, take, drop}
 use Rattle.whole.specs.Whole.{∣◌∣}
 use Rattle.whole.specs.Each.{all_below}
+use Rattle.whole.specs.Refusals.{number_of}
+use Rattle.whole.specs.declared.refusal.Refusal.{Refusal}
 use Rattle.bulletin.specs.declared.Days.{Days}
 use Rattle.bulletin.specs.Rows.{row_at_rule, has_day_rule, days_of}
 use Rattle.bulletin.specs.Reading.{in_ranges_rule, taken_filled_rule, days_there_rule, record_of_rule, records, days, no_days_rule}
-
--- columns that can hold a decimal of at most 19 digits
-pub record Apt (c : Columns) : Type 0 where
-  pub counted : 1 ≤ c.first
-  pub wide : c.first + c.decimals < c.last
-  pub narrow : c.last ≤ c.first + 9
 
 -- row i stands from one start to a byte before the next
 pub record Stands (text : List ℕ) (starts : List ℕ) (i : ℕ) : Type 0 where
@@ -30,11 +25,15 @@ pub record Listed (text : List ℕ) (dates : List ℤ) (starts : List ℕ) : Typ
 abbrev pub Near : List ℤ → Type 0
 Near dates = (i : ℕ) → i < length dates → ∣ get_or dates i (pos 0) ∣ ≤ 100_000
 
--- the rows are listed, each that is taken is filled, and each day asked for has one
-pub record Ready (text : List ℕ) (dates : List ℤ) (starts : List ℕ) (first count : ℤ) : Type 0 where
-  pub listed : Listed text dates starts
+-- each row that is taken is filled, and each day asked for has one
+pub record Ready (text : List ℕ) (first count : ℤ) : Type 0 where
   pub filled : taken_filled_rule text first count ≡ true
   pub there : days_there_rule text first count ≡ true
+
+-- what is answered for a result
+abbrev pub days_in : Result (List ℤ) Refusal → Days
+days_in (Ok zs) = days zs
+days_in (Err r) = no_days_rule (number_of r)
 
 -- the answer where nothing but a field of a record is left to refuse for
 unfoldable pub given_records : List ℕ → ℤ → List ℤ → Days

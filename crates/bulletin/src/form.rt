@@ -5,6 +5,7 @@ ghost use Rattle.text.specs.Put.{Put};
 ghost use Rattle.bulletin.specs.Decimals.{past_blanks_rule, is_minus_rule, past_minus_rule, is_decimal_rule, units_of_rule, last_digits, minus_of, printed};
 
 use text::decimal::{all_digits, put_natural, read_natural, read_on};
+use whole::below::first_failing;
 use whole::sign::{size, with_sign};
 
 // ---- read
@@ -13,14 +14,7 @@ use whole::sign::{size, with_sign};
 fn past_blanks(s: &[u8]) -> &[u8]
     ensures { result.now ≡ past_blanks_rule s.now }
 {
-    let mut i: usize = 0;
-    while i < s.len() {
-        if s[i] != 32 {
-            return &s[i..];
-        }
-        i += 1;
-    }
-    &s[i..]
+    &s[first_failing(s.len(), |i| s[i] == 32)..]
 }
 
 // Whether a `-` stands at the start.
@@ -28,10 +22,7 @@ fn past_blanks(s: &[u8]) -> &[u8]
 pub fn is_minus(s: &[u8]) -> bool
     ensures { result ≡ is_minus_rule s.now }
 {
-    if s.len() == 0 {
-        return false;
-    }
-    s[0] == 45
+    !s.is_empty() && s[0] == 45
 }
 
 // What stands behind it.
@@ -39,29 +30,18 @@ pub fn is_minus(s: &[u8]) -> bool
 pub fn past_minus(s: &[u8]) -> &[u8]
     ensures { result.now ≡ past_minus_rule s.now }
 {
-    if is_minus(s) {
-        return &s[1..];
-    }
-    s
+    if is_minus(s) { &s[1..] } else { s }
 }
 
 // Whether the columns s hold a decimal with p digits behind the point.
+#[tactic(auto, using(crate::proofs::FormLaws::front_is, crate::proofs::FormLaws::back_is), unfolding(crate::specs::Decimals::is_decimal_rule))]
 pub fn is_decimal(s: &[u8], p: usize) -> bool
     requires { p + 1 < length s.now }
     ensures { result ≡ is_decimal_rule p s.now }
 {
     let point = s.len() - p - 1;
     let digits = past_minus(past_blanks(&s[0..point]));
-    if digits.len() == 0 {
-        return false;
-    }
-    if !all_digits(digits) {
-        return false;
-    }
-    if s[point] != 46 {
-        return false;
-    }
-    all_digits(&s[point + 1..])
+    !digits.is_empty() && all_digits(digits) && s[point] == 46 && all_digits(&s[point + 1..])
 }
 
 // Its value in units of the last decimal.
@@ -84,7 +64,7 @@ pub fn whole_hundreds(z: i64) -> bool
 
 // ---- written
 
-// n / 10^p
+// n / 10^p, a digit at a time: `10u64.pow(p)` would overflow for a p above 19, which no clause here shuts out.
 fn tenths(n: u64, p: usize) -> u64
     ensures { result ≡ n / 10 ^ p }
 {
@@ -94,7 +74,7 @@ fn tenths(n: u64, p: usize) -> u64
     tenths(n / 10, p - 1)
 }
 
-// The last p digits of n, from at on; the place behind them.
+// The last p digits of n, from at on; the place behind them. A recursion, as `last_digits` is one: `put_natural` of crate text leaves out zeros in front.
 fn put_last(room: &mut [u8], at: usize, p: usize, n: u64) -> usize
     requires { at + p ≤ length room.old }
     ensures { Put room.old at (last_digits p n) room.new result }

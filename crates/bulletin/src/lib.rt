@@ -8,21 +8,21 @@ mod putting;
 mod records;
 pub mod taking;
 
-ghost use Rattle.std.specs.Prelude.{◌<◌, ◌≤◌, length, ◌≡◌};
+ghost use Rattle.std.specs.Prelude.{◌≤◌, length, ◌≡◌};
+ghost use Rattle.whole.specs.Answers.{answer_in};
 ghost use Rattle.bulletin.specs.Promises.{DaysPromise, RowsPromise};
-ghost use Rattle.bulletin.specs.Reading.{no_days_rule};
-ghost use Rattle.bulletin.specs.Code.{Listed};
+ghost use Rattle.bulletin.specs.Code.{days_in};
 
 pub use form::{is_minus, past_minus};
-use listing::list_rows;
+use listing::{Rows, list_rows};
 use putting::{list_right, put_rows};
 pub use records::DAY_COUNT;
 use records::{records_of, values_in_range};
 use taking::{days_there, taken_filled};
-use whole::Number;
-use whole::sign::number;
+use whole::{Number, Refusal};
 
-// A refusal, and the records of days, six numbers each; zeros behind the last, and throughout where refused.
+// A refusal, and the records of days, six numbers each; zeros behind the last, and throughout where refused. C reads it, so it stays a
+// number beside an array.
 #[repr(C)]
 #[derive(Drop)]
 pub struct Days {
@@ -30,78 +30,83 @@ pub struct Days {
     pub days: [i64; 384],
 }
 
-// The answer where all is refused with n.
-fn no_days(n: usize) -> Days
-    requires { n < 65536 }
-    ensures { result ≡ no_days_rule n }
-{
-    Days {
-        refusal: number(n),
-        days: [0; 384],
+impl From<Result<[i64; 384], Refusal>> for Days {
+    ghost from_gives = { λ r d. d ≡ days_in r };
+
+    fn from(answer: Result<[i64; 384], Refusal>) -> Days {
+        match answer {
+            Ok(days) => Days { refusal: 0, days },
+            Err(r) => Days {
+                refusal: r.number(),
+                days: [0; 384],
+            },
+        }
     }
 }
 
-// The orientation records of `count` days from the first on, of the first row with each day, with the TAI-UTC that is given for each.
+// The orientation records of `count` days from the first on, of the first row with each day, with the TAI-UTC that is given for each. C gives the three one by
+// one; `DaysPromise`, `asked` and `taken_filled_rule` take them so, and all below do.
 pub fn days_from_rows(text: &[u8], first: i64, count: i64, tai: &[i64]) -> Days
     ensures { DaysPromise text.now first count tai.now result }
 {
+    days_of_text(text, first, count, tai).into()
+}
+
+// The same, as the records or why they are refused.
+fn days_of_text(text: &[u8], first: i64, count: i64, tai: &[i64]) -> Result<[i64; 384], Refusal>
+    ensures { DaysPromise text.now first count tai.now (days_in result) }
+{
     if 65_536 < text.len() {
-        return no_days(1);
+        return Err(Refusal::Contents);
     }
     let mut dates = [0i64; 4096];
     let mut starts = [0usize; 4097];
-    let listed = list_rows(text, &mut dates, &mut starts);
-    if !listed.right {
-        return no_days(10);
-    }
-    let n = listed.rows;
-    days_among(text, &dates[0..n], &starts, first, count, tai)
+    let Ok(n) = list_rows(text, &mut dates, &mut starts) else {
+        return Err(Refusal::Row);
+    };
+    let rows = Rows {
+        text,
+        dates: &dates[..n],
+        starts: &starts,
+    };
+    days_among(rows, first, count, tai)
 }
 
-// The same for a text whose rows all have a day: the days, and where the rows stand, are lent.
-fn days_among(
-    text: &[u8],
-    dates: &[i64],
-    starts: &[usize],
-    first: i64,
-    count: i64,
-    tai: &[i64],
-) -> Days
-    requires { (length text.now ≤ 65536) × Listed text.now dates.now starts.now }
-    ensures { DaysPromise text.now first count tai.now result }
+// The same for a text whose rows all have a day.
+fn days_among(rows: Rows, first: i64, count: i64, tai: &[i64]) -> Result<[i64; 384], Refusal>
+    requires { length rows.text.now ≤ 65536 }
+    ensures { DaysPromise rows.entry.text.now first count tai.now (days_in result) }
 {
-    if !taken_filled(text, dates, starts, first, count) {
-        return no_days(10);
+    if !taken_filled(rows, first, count) {
+        return Err(Refusal::Row);
     }
-    if !days_there(dates, first, count) {
-        return no_days(11);
+    if !days_there(rows.dates, first, count) {
+        return Err(Refusal::NoRow);
     }
     if !values_in_range(first, count, tai) {
-        return no_days(2);
+        return Err(Refusal::Range);
     }
-    records_of(text, dates, starts, first, tai)
+    records_of(rows, first, tai)
 }
 
 // Writes a row for each record, 186 bytes with its line feed, to the start of the room; answers how many bytes that is.
 pub fn rows_from_days(days: &[i64], room: &mut [u8]) -> Number
     ensures { RowsPromise days.now room.old result room.new }
 {
+    write_rows(days, room).into()
+}
+
+// The same, as the number of bytes or why nothing is written.
+fn write_rows(days: &[i64], room: &mut [u8]) -> Result<i64, Refusal>
+    ensures { RowsPromise days.now room.old (answer_in result) room.new }
+{
     if !list_right(days) {
-        return Number {
-            refusal: 2,
-            value: 0,
-        };
+        return Err(Refusal::Range);
     }
     let bytes = 186 * (days.len() / 6);
     if room.len() < bytes {
-        return Number {
-            refusal: 7,
-            value: 0,
-        };
+        return Err(Refusal::Room);
     }
     put_rows(days, room);
-    Number {
-        refusal: 0,
-        value: bytes as i64,
-    }
+    Ok(bytes as i64)
 }

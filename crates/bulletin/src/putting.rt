@@ -5,14 +5,15 @@ ghost use Rattle.text.specs.Bytes.{pasted};
 ghost use Rattle.bulletin.specs.Writing.{row_for_rule, records_in, record_at_rule, can_stand_rule, list_right_rule, rows_text};
 
 use crate::form::whole_hundreds;
-use crate::layout::{MJD, UT1, X, Y, put_in};
+use crate::layout::{MJD, UT1, X, Y};
 use crate::records::{DAY_COUNT, in_ranges};
 use fields::Day;
 use fields::ranges::inside;
 use text::bytes::copy;
+use whole::below::all_pass;
 use whole::divide::floor_div;
 
-// Record i of the list.
+// Record i of the list. Written out: `From<[i64; 8]>` of crate fields takes a whole row, and this list has six numbers a record.
 fn record_at(numbers: &[i64], i: usize) -> Day
     requires { 6 * i + 6 ≤ length numbers.now }
     ensures { result ≡ record_at_rule numbers.now i }
@@ -33,13 +34,7 @@ fn record_at(numbers: &[i64], i: usize) -> Day
 fn can_stand(d: Day) -> bool
     ensures { result ≡ can_stand_rule d }
 {
-    if !in_ranges(d) {
-        return false;
-    }
-    if !whole_hundreds(d.ut1_utc) {
-        return false;
-    }
-    d.mark == 1
+    in_ranges(d) && whole_hundreds(d.ut1_utc) && d.mark == 1
 }
 
 // Whether each record of the list can.
@@ -47,14 +42,7 @@ fn all_can_stand(numbers: &[i64], records: usize) -> bool
     requires { 6 * records ≤ length numbers.now }
     ensures { result ≡ all_below records (λ i. can_stand_rule (record_at_rule numbers.now i)) }
 {
-    let mut i: usize = 0;
-    while i < records {
-        if !can_stand(record_at(numbers, i)) {
-            return false;
-        }
-        i += 1;
-    }
-    true
+    all_pass(records, |i| can_stand(record_at(numbers, i)))
 }
 
 // Whether the list has a right number of whole records, each of which can stand in a row.
@@ -63,13 +51,9 @@ pub fn list_right(numbers: &[i64]) -> bool
     ensures { result ≡ list_right_rule numbers.now }
 {
     let records = numbers.len() / 6;
-    if 6 * records != numbers.len() {
-        return false;
-    }
-    if !inside(DAY_COUNT, records as i64) {
-        return false;
-    }
-    all_can_stand(numbers, records)
+    6 * records == numbers.len()
+        && inside(DAY_COUNT, records as i64)
+        && all_can_stand(numbers, records)
 }
 
 // The row of a record, with its line feed.
@@ -79,10 +63,10 @@ fn row_for(d: Day) -> [u8; 186]
 {
     let mut row = [32u8; 186];
     row[185] = 10;
-    put_in(&mut row, MJD, 100 * d.mjd);
-    put_in(&mut row, X, d.x);
-    put_in(&mut row, Y, d.y);
-    put_in(&mut row, UT1, floor_div(d.ut1_utc, 100));
+    MJD.put_in(&mut row, 100 * d.mjd);
+    X.put_in(&mut row, d.x);
+    Y.put_in(&mut row, d.y);
+    UT1.put_in(&mut row, floor_div(d.ut1_utc, 100));
     row
 }
 
@@ -91,11 +75,7 @@ pub fn put_rows(numbers: &[i64], room: &mut [u8])
     requires { (list_right_rule numbers.now ≡ true) × (186 * records_in numbers.now ≤ length room.old) }
     ensures { room.new ≡ pasted room.old 0 (rows_text numbers.now) }
 {
-    let records = numbers.len() / 6;
-    let mut i: usize = 0;
-    while i < records {
-        let row = row_for(record_at(numbers, i));
-        copy(room, 186 * i, &row);
-        i += 1;
+    for i in 0..numbers.len() / 6 {
+        copy(room, 186 * i, &row_for(record_at(numbers, i)));
     }
 }

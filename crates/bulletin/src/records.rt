@@ -6,20 +6,20 @@ ghost use Rattle.whole.specs.Ranges.{eq_z};
 ghost use Rattle.fields.specs.Ranges.{inside, mjd};
 ghost use Rattle.bulletin.specs.Rows.{row_at_rule, is_filled_rule, first_in_rule};
 ghost use Rattle.bulletin.specs.Reading.{day_count, in_ranges_rule, numbers_of_rule, record_for};
-ghost use Rattle.bulletin.specs.Code.{Listed, Ready, given_records};
+ghost use Rattle.bulletin.specs.Code.{Ready, days_in, given_records};
 
-use crate::layout::{UT1, X, Y, value_in};
-use crate::listing::row_at;
+use crate::layout::{UT1, X, Y};
+use crate::listing::{Rows, row_at};
 use crate::taking::first_in;
-use crate::{Days, no_days};
 use fields::Day;
 use fields::ranges::{MJD, POLE, Range, TAI_UTC, UT1_UTC, inside};
+use whole::Refusal;
 use whole::sign::{number, size};
 
 // How many days a list may have.
 pub const DAY_COUNT: Range = Range { low: 2, high: 64 };
 
-// Whether each field of a record but the mark is in its range.
+// Whether each field of a record but the mark is in its range. Each has its own `if`: with `&&` two goals of the check stay open.
 #[tactic(auto, unfolding(crate::specs::Reading::in_ranges_rule))]
 pub fn in_ranges(d: Day) -> bool
     ensures { result ≡ in_ranges_rule d }
@@ -43,13 +43,7 @@ pub fn in_ranges(d: Day) -> bool
 pub fn values_in_range(first: i64, count: i64, tai: &[i64]) -> bool
     ensures { result ≡ (inside mjd first && (inside day_count count && eq_z (pos (length tai.now)) count)) }
 {
-    if !inside(MJD, first) {
-        return false;
-    }
-    if !inside(DAY_COUNT, count) {
-        return false;
-    }
-    tai.len() == size(count) as usize
+    inside(MJD, first) && inside(DAY_COUNT, count) && tai.len() == size(count) as usize
 }
 
 // Day k of those asked for.
@@ -61,58 +55,42 @@ fn day_at(first: i64, k: usize) -> i64
 }
 
 // The record of day d, by the row that is taken for it: it holds full UT1.
-fn record_of(text: &[u8], dates: &[i64], starts: &[usize], d: i64, tai: i64) -> Day
-    requires { Listed text.now dates.now starts.now × (first_in_rule dates.now d < length dates.now) × (is_filled_rule (row_at_rule text.now (first_in_rule dates.now d)) ≡ true) }
-    ensures { result ≡ record_for text.now d tai }
+fn record_of(rows: Rows, d: i64, tai: i64) -> Day
+    requires { (first_in_rule rows.dates.now d < length rows.dates.now) × (is_filled_rule (row_at_rule rows.text.now (first_in_rule rows.dates.now d)) ≡ true) }
+    ensures { result ≡ record_for rows.entry.text.now d tai }
 {
-    let row = row_at(text, starts, first_in(dates, d));
+    let row = row_at(rows.text, rows.starts, first_in(rows.dates, d));
     Day {
         mjd: d,
-        x: value_in(X, row),
-        y: value_in(Y, row),
-        ut1_utc: 100 * value_in(UT1, row),
+        x: X.value_in(row),
+        y: Y.value_in(row),
+        ut1_utc: 100 * UT1.value_in(row),
         tai_utc: tai,
         mark: 1,
     }
 }
 
-// Puts the numbers of record k into their places.
+// Puts the numbers of record k into their places. Nobody else makes a row of a `Day`, so there is no `From` for it.
 fn put_day(days: &mut [i64; 384], k: usize, d: Day)
     requires { k < 64 }
     ensures { days.new ≡ sets days.old (6 * k) (numbers_of_rule d) }
 {
-    let at = 6 * k;
-    let m = d.mjd;
-    let x = d.x;
-    let y = d.y;
-    let u = d.ut1_utc;
-    let t = d.tai_utc;
-    let w = d.mark;
-    days[at] = m;
-    days[at + 1] = x;
-    days[at + 2] = y;
-    days[at + 3] = u;
-    days[at + 4] = t;
-    days[at + 5] = w;
+    let numbers = [d.mjd, d.x, d.y, d.ut1_utc, d.tai_utc, d.mark];
+    days[6 * k..6 * k + 6].copy_from_slice(&numbers);
 }
 
-// The records, as many as there are of TAI-UTC; 2 where a field of one is out of its range.
-pub fn records_of(text: &[u8], dates: &[i64], starts: &[usize], first: i64, tai: &[i64]) -> Days
-    requires { Ready text.now dates.now starts.now first (pos (length tai.now)) × (length tai.now ≤ 64) × (∣ first ∣ ≤ 100_000) }
-    ensures { result ≡ given_records text.now first tai.now }
+// The records, as many as there are of TAI-UTC; refused where a field of one is out of its range.
+pub fn records_of(rows: Rows, first: i64, tai: &[i64]) -> Result<[i64; 384], Refusal>
+    requires { Ready rows.text.now first (pos (length tai.now)) × (length tai.now ≤ 64) × (∣ first ∣ ≤ 100_000) }
+    ensures { days_in result ≡ given_records rows.entry.text.now first tai.now }
 {
     let mut days = [0i64; 384];
-    let mut k: usize = 0;
-    while k < tai.len() {
-        let d = record_of(text, dates, starts, day_at(first, k), tai[k]);
+    for k in 0..tai.len() {
+        let d = record_of(rows, day_at(first, k), tai[k]);
         if !in_ranges(d) {
-            return no_days(2);
+            return Err(Refusal::Range);
         }
         put_day(&mut days, k, d);
-        k += 1;
     }
-    Days {
-        refusal: 0,
-        days: days,
-    }
+    Ok(days)
 }

@@ -8,7 +8,7 @@ use native.Mathlib.Omega.{arith}
 use borrow.Author.Tests.{leb-true}
 use lib.Dec.{ltb, leb}
 use lib.ListN.{length}
-use lib.IntN.{pos}
+use Rattle.std.specs.Prelude.{Some, None}
 use Rattle.whole.proofs.Linear.{and_true}
 use Rattle.text.specs.Decimal.{is_digit_rule, all_digits_rule, read_from_rule, read}
 use Rattle.text.proofs.Reading.{digit_in, next_below, zero_below}
@@ -40,10 +40,10 @@ module _ (s : List ℕ) (h : few_digits_rule s ≡ true) where
 
 -- ---- a word that is a number, and one that is none
 
-pub number_yes : (s : List ℕ) → is_number s ≡ true → record { right = true; value = number_of s } ≡ parsed_of s
+pub number_yes : (s : List ℕ) → is_number s ≡ true → Some (number_of s) ≡ parsed_of s
 unfolding parsed_of
 number_yes s h = rw h
 
-pub number_no : (s : List ℕ) → is_number s ≡ false → record { right = false; value = pos 0 } ≡ parsed_of s
+pub number_no : (s : List ℕ) → is_number s ≡ false → None ≡ parsed_of s
 unfolding parsed_of
 number_no s h = rw h

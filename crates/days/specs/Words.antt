@@ -1,9 +1,8 @@
 -- The words behind the program's name: `-` or nothing, and then one digit to 18, which fit 64 bits with either sign.
-use Rattle.std.specs.Prelude.{Bool, true, false, cond, ◌&&◌, List, ℕ, leb, ltb, ℤ, pos, length}
+use Rattle.std.specs.Prelude.{Bool, cond, Option, Some, None, ◌&&◌, List, ℕ, leb, ltb, ℤ, length}
 use Rattle.whole.specs.Whole.{sign_of}
 use Rattle.text.specs.Decimal.{all_digits_rule, read}
 use Rattle.bulletin.specs.Decimals.{is_minus_rule, past_minus_rule}
-use Rattle.days.specs.declared.words.Parsed.{Parsed}
 
 unfoldable pub few_digits_rule : List ℕ → Bool
 few_digits_rule s = ltb 0 (length s) && (leb (length s) 18 && all_digits_rule s)
@@ -15,5 +14,5 @@ is_number s = few_digits_rule (past_minus_rule s)
 abbrev pub number_of : List ℕ → ℤ
 number_of s = sign_of (is_minus_rule s) (read (past_minus_rule s))
 
-unfoldable pub parsed_of : List ℕ → Parsed
-parsed_of s = cond (is_number s) (record { right = true; value = number_of s }) (record { right = false; value = pos 0 })
+unfoldable pub parsed_of : List ℕ → Option ℤ
+parsed_of s = cond (is_number s) (Some (number_of s)) None

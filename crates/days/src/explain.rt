@@ -1,21 +1,20 @@
-// What a refusal means, in words on standard error: what was found, what is allowed, and where. Rows and columns count from 1.
-ghost use Rattle.std.specs.Prelude.{◌≤◌};
-
-use crate::faults::{after, columns_of, first_fault, first_lacking, first_out, range_of, value_of};
+// What a refusal means, in words on standard error: what was found, what is allowed, and where. Rows and columns count from 1. A text and the days of its first
+// rows stay two parameters: `bulletin::Rows` asks that each row has a day, and here one may have none.
+use crate::faults::{Field, first_fault, first_lacking, first_out};
+use crate::words::Asked;
 use bulletin::DAY_COUNT;
-use bulletin::layout::{Columns, MJD, holds_decimal};
+use bulletin::layout::{Columns, MJD};
 use bulletin::listing::list_rows;
 use bulletin::taking::first_in;
-use console::say::{say, say_decimal, say_field, say_natural, say_unit};
+use console::say::{say, say_decimal, say_natural};
+use console::section::Section;
 use fields::ranges::{MJD as MJD_RANGE, Range, inside};
 use text::lines::line_of;
 use whole::sign::number;
 
 // The name of a field, as of a session file.
-fn say_name(field: usize) {
-    if field < 5 {
-        say_field(3, field);
-    }
+fn say_name(field: Field) {
+    Section::Days.say_field(field.place());
 }
 
 // A row by its place, which counts from 0.
@@ -41,38 +40,25 @@ fn say_from_1() {
 
 // A byte of a row; `?` for one that a terminal may take for a command.
 fn say_byte(b: u8) {
-    if 32 <= b && b <= 126 {
-        let shown = [b];
-        say(&shown);
-        return;
+    if (32..=126).contains(&b) {
+        say(&[b]);
+    } else {
+        say(b"?");
     }
-    say(b"?");
 }
 
 // The bytes of a row in some columns, or as far as it goes.
-fn say_bytes(row: &[u8], c: Columns)
-    requires { c.last ≤ 68 }
-{
-    let last = c.last;
-    let mut i: usize = 0;
-    while i < last {
-        if row.len() <= i {
-            return;
-        }
-        if c.first <= i + 1 {
-            say_byte(row[i]);
-        }
-        i += 1;
+fn say_bytes(row: &[u8], c: Columns) {
+    for b in row.iter().take(c.last).skip(c.first - 1) {
+        say_byte(*b);
     }
 }
 
 // What should stand in the columns of a field, where they hold something else.
-fn say_form(row: &[u8], field: usize, c: Columns) {
-    if field == 0 {
-        if holds_decimal(MJD, row) {
-            say(b"expected a whole day, with .00 behind it");
-            return;
-        }
+fn say_form(row: &[u8], field: Field, c: Columns) {
+    if field == Field::Mjd && MJD.holds_decimal(row) {
+        say(b"expected a whole day, with .00 behind it");
+        return;
     }
     say(b"expected a decimal with ");
     say_natural(c.decimals as u64);
@@ -80,9 +66,9 @@ fn say_form(row: &[u8], field: usize, c: Columns) {
     say_natural(c.last as u64);
 }
 
-fn explain_row(text: &[u8], place: usize, field: usize) {
+fn explain_row(text: &[u8], place: usize, field: Field) {
     let row = line_of(text, place);
-    let c = columns_of(field);
+    let c = field.columns();
     say_row(place);
     if row.len() < c.last {
         say(b" has ");
@@ -152,73 +138,71 @@ fn explain_values(values: usize, count: i64) {
 fn explain_record(text: &[u8], days: &[i64], d: i64, tai_utc: i64) -> bool {
     let place = first_in(days, d);
     let row = line_of(text, place);
-    let field = first_out(row, d, tai_utc);
-    if 5 <= field {
+    let Some(field) = first_out(row, d, tai_utc) else {
         return false;
-    }
+    };
     say(b"day ");
     say_decimal(d);
     say(b", ");
     say_name(field);
-    say_out(value_of(field, row, d, tai_utc), range_of(field));
-    say_unit(3, field);
-    if field < 4 {
+    say_out(field.value(row, d, tai_utc), field.range());
+    Section::Days.say_unit(field.place());
+    if field != Field::TaiUtc {
         say(b"; ");
         say_row(place);
         say(b", ");
-        say_columns(columns_of(field));
+        say_columns(field.columns());
         say_from_1();
     }
     true
 }
 
-// The first record with a field out of its range.
-fn explain_records(text: &[u8], days: &[i64], first: i64, tai: &[i64]) {
-    let mut d = first;
-    let mut k: usize = 0;
-    while k < tai.len() {
-        if explain_record(text, days, d, tai[k]) {
+// The first record with a field out of its range. The day is counted beside the values, and may not pass the greatest number.
+fn explain_records(text: &[u8], days: &[i64], a: Asked) {
+    let mut d = a.first;
+    for t in a.tai {
+        if explain_record(text, days, d, *t) {
             return;
         }
-        d = after(d);
-        k += 1;
+        d = d.saturating_add(1);
     }
 }
 
-fn explain_value(text: &[u8], days: &[i64], first: i64, count: i64, tai: &[i64]) {
-    if !inside(MJD_RANGE, first) {
+fn explain_value(text: &[u8], days: &[i64], a: Asked) {
+    if !inside(MJD_RANGE, a.first) {
         say(b"first day");
-        say_out(first, MJD_RANGE);
+        say_out(a.first, MJD_RANGE);
         return;
     }
-    if !inside(DAY_COUNT, count) {
+    if !inside(DAY_COUNT, a.count) {
         say(b"number of days");
-        say_out(count, DAY_COUNT);
+        say_out(a.count, DAY_COUNT);
         return;
     }
-    if number(tai.len()) != count {
-        explain_values(tai.len(), count);
+    if number(a.tai.len()) != a.count {
+        explain_values(a.tai.len(), a.count);
         return;
     }
-    explain_records(text, days, first, tai);
+    explain_records(text, days, a);
 }
 
 // ---- all
 
-// What a refusal other than 1 means; the days of the rows before the first that has none are lent.
-fn explain_rows(text: &[u8], days: &[i64], first: i64, count: i64, tai: &[i64], n: i64) {
-    if n == 10 {
-        let f = first_fault(text, days, first, count);
-        explain_row(text, f.row, f.field);
-    } else if n == 11 {
-        explain_lacking(days, first);
-    } else {
-        explain_value(text, days, first, count, tai);
+// What a refusal other than 1 means; the days of the rows before the first that has none are lent. The refusal is a number here, as
+// `Days` gives it to C.
+fn explain_rows(text: &[u8], days: &[i64], a: Asked, n: i64) {
+    match n {
+        10 => {
+            let f = first_fault(text, days, a.first, a.count);
+            explain_row(text, f.row, f.field);
+        }
+        11 => explain_lacking(days, a.first),
+        _ => explain_value(text, days, a),
     }
 }
 
 // What a refusal means, if there is one.
-pub(crate) fn explain(text: &[u8], first: i64, count: i64, tai: &[i64], n: i64) {
+pub(crate) fn explain(text: &[u8], a: Asked, n: i64) {
     if n < 1 {
         return;
     }
@@ -231,8 +215,7 @@ pub(crate) fn explain(text: &[u8], first: i64, count: i64, tai: &[i64], n: i64) 
     }
     let mut days = [0i64; 4096];
     let mut starts = [0usize; 4097];
-    let listed = list_rows(text, &mut days, &mut starts);
-    let m = listed.rows;
-    explain_rows(text, &days[..m], first, count, tai, n);
+    let (Ok(m) | Err(m)) = list_rows(text, &mut days, &mut starts);
+    explain_rows(text, &days[..m], a, n);
     say(b"\n");
 }

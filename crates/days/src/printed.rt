@@ -6,6 +6,7 @@ ghost use Rattle.text.specs.Table.{row_lines};
 ghost use Rattle.bulletin.specs.Reading.{days_outcome};
 ghost use Rattle.days.specs.Text.{days_text_rule};
 
+use crate::words::Asked;
 use bulletin::days_from_rows;
 use text::table::{put_refused, put_rows};
 use whole::sign::size;
@@ -18,7 +19,8 @@ fn put_days(room: &mut [u8], days: &[i64], count: i64) -> usize
     put_rows(room, 0, days, 6, size(count) as usize)
 }
 
-// How long the text is, and the refusal, 0 for none.
+// How long the text is, and the refusal, 0 for none, as the C interface has it: there is a text where a call is refused, too. `lines::Text` is its like; to
+// share two fields this crate would have to stand on all that makes tracks.
 #[derive(Drop)]
 pub(crate) struct Text {
     pub length: usize,
@@ -26,23 +28,20 @@ pub(crate) struct Text {
 }
 
 // Puts the text of the answer for these rows and words at the start of the room.
-pub(crate) fn days_text(rows: &[u8], first: i64, count: i64, tai: &[i64], room: &mut [u8]) -> Text
+pub(crate) fn days_text(rows: &[u8], a: Asked, room: &mut [u8]) -> Text
     requires { 8064 ≤ length room.old }
-    ensures { Put room.old 0 (days_text_rule rows.now first count tai.now) room.new result.length × (result.refusal ≡ (days_outcome rows.now first count tai.now).refusal) }
+    ensures { Put room.old 0 (days_text_rule rows.now a.entry.first a.entry.count a.entry.tai.now) room.new result.length × (result.refusal ≡ (days_outcome rows.now a.entry.first a.entry.count a.entry.tai.now).refusal) }
 {
-    let d = days_from_rows(rows, first, count, tai);
+    let d = days_from_rows(rows, a.first, a.count, a.tai);
     let n = d.refusal;
     if 1 <= n {
-        let line = put_refused(room, n);
         return Text {
-            length: line,
+            length: put_refused(room, n),
             refusal: n,
         };
     }
-    let days = d.days;
-    let end = put_days(room, &days, count);
     Text {
-        length: end,
+        length: put_days(room, &d.days, a.count),
         refusal: n,
     }
 }

@@ -16,7 +16,6 @@ use Rattle.whole.specs.Each.{all_below}
 use Rattle.whole.proofs.Each.{below_all}
 use Rattle.whole.proofs.Linear.{back}
 use Rattle.fields.specs.Ranges.{inside, mjd}
-use Rattle.bulletin.specs.declared.Days.{Days}
 use Rattle.bulletin.specs.Code.{Listed}
 use Rattle.bulletin.specs.Rows.{rows_of, first_in_rule}
 use Rattle.bulletin.specs.Reading.{all_dated, day_count, taken_filled_rule, days_there_rule, days_outcome, no_days_rule}
@@ -46,61 +45,61 @@ module _ {text : List ℕ} {dates : List ℤ} {starts : List ℕ} (h : (length t
   unfolding all_dated
   dated = below_all (length (rows_of text)) _ (λ i l. h.1.dated i (omega (arith, l, listed-long h.1)))
 
-  unfilled : {r : Days} → taken_filled_rule text first count ≡ false → r ≡ no_days_rule 10 → r ≡ days_outcome text first count tai
-  unfilled f r = r ∙ sym (some_unfilled text first count tai short dated f)
+  unfilled : taken_filled_rule text first count ≡ false → no_days_rule 10 ≡ days_outcome text first count tai
+  unfilled f = sym (some_unfilled text first count tai short dated f)
 
-  missing : {r : Days} → taken_filled_rule text first count ≡ true → days_there_rule text first count ≡ false → r ≡ no_days_rule 11 → r ≡ days_outcome text first count tai
-  missing f t r = r ∙ sym (some_missing text first count tai short dated f t)
+  missing : taken_filled_rule text first count ≡ true → days_there_rule text first count ≡ false → no_days_rule 11 ≡ days_outcome text first count tai
+  missing f t = sym (some_missing text first count tai short dated f t)
 
-  wrong : {r : Days} → taken_filled_rule text first count ≡ true → days_there_rule text first count ≡ true → (inside mjd first && (inside day_count count && eq_z (pos (length tai)) count)) ≡ false → r ≡ no_days_rule 2
-      → r ≡ days_outcome text first count tai
-  wrong f t v r = r ∙ sym (values_wrong text first count tai short dated f t v)
+  wrong : taken_filled_rule text first count ≡ true → days_there_rule text first count ≡ true → (inside mjd first && (inside day_count count && eq_z (pos (length tai)) count)) ≡ false
+      → no_days_rule 2 ≡ days_outcome text first count tai
+  wrong f t v = sym (values_wrong text first count tai short dated f t v)
 
 pub returns-then-not-taken_filled : goal.returns-then-not-taken_filled
 returns-then-not-taken_filled c =
     let a = c.args in
-    let f = filled_is c.ranges.first c.ranges.count a.text.now c.taken_filled.ensures c.if-not-taken_filled.true in
-    unfilled c.requires a.first a.count a.tai.now f c.no_days.ensures
+    let f = filled_is c.ranges.first c.ranges.count a.rows.text.now c.taken_filled.ensures c.if-not-taken_filled.true in
+    unfilled (c.requires, a.rows.listed) a.first a.count a.tai.now f
 
 pub days_there-requires : goal.days_there-requires
-days_there-requires c = near c.requires.1
+days_there-requires c = near c.args.rows.listed
 
 pub returns-then-not-days_there : goal.returns-then-not-days_there
 returns-then-not-days_there c =
     let a = c.args in
-    let f = filled_is c.ranges.first c.ranges.count a.text.now c.taken_filled.ensures c.if-not-taken_filled.false in
-    let t = there_is c.ranges.first c.ranges.count c.requires.1 c.days_there.ensures c.if-not-days_there.true in
-    missing c.requires a.first a.count a.tai.now f t c.no_days-then-not-days_there.ensures
+    let f = filled_is c.ranges.first c.ranges.count a.rows.text.now c.taken_filled.ensures c.if-not-taken_filled.false in
+    let t = there_is c.ranges.first c.ranges.count a.rows.listed c.days_there.ensures c.if-not-days_there.true in
+    missing (c.requires, a.rows.listed) a.first a.count a.tai.now f t
 
 pub returns-then-not-values_in_range : goal.returns-then-not-values_in_range
 returns-then-not-values_in_range c =
     let a = c.args in
-    let f = filled_is c.ranges.first c.ranges.count a.text.now c.taken_filled.ensures c.if-not-taken_filled.false in
-    let t = there_is c.ranges.first c.ranges.count c.requires.1 c.days_there.ensures c.if-not-days_there.false in
+    let f = filled_is c.ranges.first c.ranges.count a.rows.text.now c.taken_filled.ensures c.if-not-taken_filled.false in
+    let t = there_is c.ranges.first c.ranges.count a.rows.listed c.days_there.ensures c.if-not-days_there.false in
     let v = values_are c.ranges.first c.ranges.count a.tai.now c.values_in_range.ensures c.if-not-values_in_range.true in
-    wrong c.requires a.first a.count a.tai.now f t v c.no_days-then-not-values_in_range.ensures
+    wrong (c.requires, a.rows.listed) a.first a.count a.tai.now f t v
 
 pub records_of-requires : goal.records_of-requires
 records_of-requires c =
     let a = c.args in
-    let s = short c.requires a.first a.count a.tai.now in
-    let d = dated c.requires a.first a.count a.tai.now in
-    let f = filled_is c.ranges.first c.ranges.count a.text.now c.taken_filled.ensures c.if-not-taken_filled.false in
-    let t = there_is c.ranges.first c.ranges.count c.requires.1 c.days_there.ensures c.if-not-days_there.false in
+    let s = short (c.requires, a.rows.listed) a.first a.count a.tai.now in
+    let d = dated (c.requires, a.rows.listed) a.first a.count a.tai.now in
+    let f = filled_is c.ranges.first c.ranges.count a.rows.text.now c.taken_filled.ensures c.if-not-taken_filled.false in
+    let t = there_is c.ranges.first c.ranges.count a.rows.listed c.days_there.ensures c.if-not-days_there.false in
     let v = values_are c.ranges.first c.ranges.count a.tai.now c.values_in_range.ensures c.if-not-values_in_range.false in
-    let e = count_is a.text.now a.first a.count a.tai.now s d f t v in
+    let e = count_is a.rows.text.now a.first a.count a.tai.now s d f t v in
     rw (back c.ranges.first) (
-      record { listed = c.requires.1; filled = rw e f; there = rw e t },
-      few_days a.text.now a.first a.count a.tai.now s d f t v,
-      first_small a.text.now a.first a.count a.tai.now s d f t v,
+      record { filled = rw e f; there = rw e t },
+      few_days a.rows.text.now a.first a.count a.tai.now s d f t v,
+      first_small a.rows.text.now a.first a.count a.tai.now s d f t v,
     )
 
 pub returns : goal.returns
 returns c =
     let a = c.args in
-    let s = short c.requires a.first a.count a.tai.now in
-    let d = dated c.requires a.first a.count a.tai.now in
-    let f = filled_is c.ranges.first c.ranges.count a.text.now c.taken_filled.ensures c.if-not-taken_filled.false in
-    let t = there_is c.ranges.first c.ranges.count c.requires.1 c.days_there.ensures c.if-not-days_there.false in
+    let s = short (c.requires, a.rows.listed) a.first a.count a.tai.now in
+    let d = dated (c.requires, a.rows.listed) a.first a.count a.tai.now in
+    let f = filled_is c.ranges.first c.ranges.count a.rows.text.now c.taken_filled.ensures c.if-not-taken_filled.false in
+    let t = there_is c.ranges.first c.ranges.count a.rows.listed c.days_there.ensures c.if-not-days_there.false in
     let v = values_are c.ranges.first c.ranges.count a.tai.now c.values_in_range.ensures c.if-not-values_in_range.false in
-    (simp (back c.ranges.first) at c.records_of.ensures) ∙ sym (values_given a.text.now a.first a.count a.tai.now s d f t v)
+    (simp (back c.ranges.first) at c.records_of.ensures) ∙ sym (values_given a.rows.text.now a.first a.count a.tai.now s d f t v)

@@ -12,7 +12,6 @@ use Rattle.whole.proofs.Linear.{ret, back, abs_fits, abs_of, abs_mul≤}
 use Rattle.fields.specs.declared.Day.{Day}
 use Rattle.bulletin.specs.Columns.{mjd_columns, x_columns, y_columns, ut1_columns, with_decimal}
 use Rattle.bulletin.specs.Writing.{blank_row, row_for_rule, can_stand_rule}
-use Rattle.bulletin.proofs.ColumnLaws.{mjd_apt, x_apt, y_apt, ut1_apt}
 use Rattle.bulletin.proofs.Standing.{stands_in_lem, mjd-narrow, pole-narrow, ut1-narrow}
 use Rattle.bulletin.proofs.putting.row_for.Goals as goal
 
@@ -37,23 +36,23 @@ pub put_in-requires : goal.put_in-requires
 put_in-requires c =
     let f : SFits w64 c.args.d.mjd = search rules in
     let e = mjd_back c.args.d c.requires f in
-    (mjd_apt, lit≤ tt, rw e (omega (arith, mjd-narrow c.args.d.mjd (stands_in_lem c.args.d c.requires).mjd)))
+    (lit≤ tt, rw e (omega (arith, mjd-narrow c.args.d.mjd (stands_in_lem c.args.d c.requires).mjd)))
 
 pub put_in-requires-2 : goal.put_in-requires-2
 put_in-requires-2 c =
     let f : SFits w64 c.args.d.x = search rules in
-    (x_apt, omega (arith, c.put_in.auto.row), rw (back f) (omega (arith, pole-narrow c.args.d.x (stands_in_lem c.args.d c.requires).x)))
+    (omega (arith, c.put_in.auto.row), rw (back f) (omega (arith, pole-narrow c.args.d.x (stands_in_lem c.args.d c.requires).x)))
 
 pub put_in-requires-3 : goal.put_in-requires-3
 put_in-requires-3 c =
     let f : SFits w64 c.args.d.y = search rules in
-    (y_apt, omega (arith, c.put_in-2.auto.row, c.put_in.auto.row), rw (back f) (omega (arith, pole-narrow c.args.d.y (stands_in_lem c.args.d c.requires).y)))
+    (omega (arith, c.put_in-2.auto.row, c.put_in.auto.row), rw (back f) (omega (arith, pole-narrow c.args.d.y (stands_in_lem c.args.d c.requires).y)))
 
 pub put_in-requires-4 : goal.put_in-requires-4
 put_in-requires-4 c =
     let f : SFits w64 c.args.d.ut1_utc = search rules in
     let e = ret c.floor_div.result c.floor_div.type_inv ∙ c.floor_div.ensures ∙ ap (λ (z : ℤ). floor_z z 100) (back f) in
-    (ut1_apt, omega (arith, c.put_in-3.auto.row, c.put_in-2.auto.row, c.put_in.auto.row), rw e (omega (arith, ut1-narrow c.args.d.ut1_utc (stands_in_lem c.args.d c.requires).ut1_utc)))
+    (omega (arith, c.put_in-3.auto.row, c.put_in-2.auto.row, c.put_in.auto.row), rw e (omega (arith, ut1-narrow c.args.d.ut1_utc (stands_in_lem c.args.d c.requires).ut1_utc)))
 
 pub returns : goal.returns
 unfolding row_for_rule

@@ -1,11 +1,10 @@
 -- `bulletin::records::record_of` meets its contract. Assumes nothing.
 use mathlib.Core.Path.{◌≡◌, ap, ◌∙◌}
 use native.Mathlib.Omega.{arith}
-use Prim.Native.Nat.{ℕ, ◌<◌, ◌≤◌}
+use Prim.Native.Nat.{ℕ, ◌≤◌}
 use mathlib.Core.Bool.{true}
 use mathlib.Core.List.{List}
 use lib.IntN.{ℤ, pos, ◌*ℤ◌}
-use lib.ListN.{length}
 use mir.Syntax.{w64}
 use mir.Val.{to_z, of_z, SFits}
 use Rattle.whole.specs.Whole.{∣◌∣}
@@ -13,7 +12,7 @@ use Rattle.whole.proofs.Linear.{and_true, back, ret, abs_fits, abs_mul≤}
 use Rattle.bulletin.specs.Columns.{x_columns, y_columns, ut1_columns, holds_decimal_rule, value_in_rule}
 use Rattle.bulletin.specs.Rows.{row_at_rule, is_filled_rule, days_of, first_in_rule}
 use Rattle.bulletin.specs.Reading.{record_for}
-use Rattle.bulletin.proofs.ColumnLaws.{x_apt, y_apt, ut1_apt, value-small}
+use Rattle.bulletin.proofs.ColumnLaws.{ut1_apt, value-small}
 use Rattle.bulletin.proofs.records.record_of.Goals as goal
 
 -- the three decimals of a row that is filled
@@ -49,32 +48,27 @@ module _ (text : List ℕ) (dates : List ℤ) {d : ℤ} {n : ℕ} (f : SFits w64
 ut1-fits : (row : List ℕ) → is_filled_rule row ≡ true → SFits w64 (pos 100 *ℤ value_in_rule ut1_columns row)
 ut1-fits row h = abs_fits (omega (arith, abs_mul≤ (pos 100) (value_in_rule ut1_columns row) 100 1_000_000_000 (omega arith) (ut1-small row h)))
 
-pub row_at-row-requires : goal.row_at-row-requires
-row_at-row-requires c =
-    let h : c.first_in.result < length c.args.dates.now = omega (arith, place_is c.args.text.now c.args.dates.now c.ranges.d c.first_in.ensures, c.requires.1) in
-    (c.requires.0.stands c.first_in.result h, omega (arith, h, c.requires.0.enough))
-
 pub value_in-requires : goal.value_in-requires
-value_in-requires c = (x_apt, x-there c.row_at-row.result.now (full c.args.text.now c.args.dates.now c.ranges.d c.first_in.ensures c.row_at-row.ensures c.requires.2))
+value_in-requires c = (x-there c.row_at-row.result.now (full c.args.rows.text.now c.args.rows.dates.now c.ranges.d c.first_in.ensures c.row_at-row.ensures c.requires.1))
 
 pub value_in-requires-2 : goal.value_in-requires-2
-value_in-requires-2 c = (y_apt, y-there c.row_at-row.result.now (full c.args.text.now c.args.dates.now c.ranges.d c.first_in.ensures c.row_at-row.ensures c.requires.2))
+value_in-requires-2 c = (y-there c.row_at-row.result.now (full c.args.rows.text.now c.args.rows.dates.now c.ranges.d c.first_in.ensures c.row_at-row.ensures c.requires.1))
 
 pub value_in-requires-3 : goal.value_in-requires-3
-value_in-requires-3 c = (ut1_apt, ut1-there c.row_at-row.result.now (full c.args.text.now c.args.dates.now c.ranges.d c.first_in.ensures c.row_at-row.ensures c.requires.2))
+value_in-requires-3 c = (ut1-there c.row_at-row.result.now (full c.args.rows.text.now c.args.rows.dates.now c.ranges.d c.first_in.ensures c.row_at-row.ensures c.requires.1))
 
 pub overflow_mul-result : goal.overflow_mul-result
 overflow_mul-result c =
-    let h = full c.args.text.now c.args.dates.now c.ranges.d c.first_in.ensures c.row_at-row.ensures c.requires.2 in
+    let h = full c.args.rows.text.now c.args.rows.dates.now c.ranges.d c.first_in.ensures c.row_at-row.ensures c.requires.1 in
     rw (ret c.value_in-3.result c.value_in-3.type_inv ∙ c.value_in-3.ensures) (ut1-fits c.row_at-row.result.now h)
 
 pub returns : goal.returns
 unfolding record_for
 returns c =
-    let text = c.args.text.now in
-    let h = full text c.args.dates.now c.ranges.d c.first_in.ensures c.row_at-row.ensures c.requires.2 in
+    let text = c.args.rows.text.now in
+    let h = full text c.args.rows.dates.now c.ranges.d c.first_in.ensures c.row_at-row.ensures c.requires.1 in
     let r : c.row_at-row.result.now ≡ row_at_rule text (first_in_rule (days_of text) c.args.d) =
-    row_is text c.args.dates.now c.ranges.d c.first_in.ensures c.row_at-row.ensures ∙ ap (λ (xs : List ℤ). row_at_rule text (first_in_rule xs c.args.d)) c.requires.0.days in
+    row_is text c.args.rows.dates.now c.ranges.d c.first_in.ensures c.row_at-row.ensures ∙ ap (λ (xs : List ℤ). row_at_rule text (first_in_rule xs c.args.d)) c.args.rows.listed.days in
     let p = back c.ranges.d in
     let q = ret c.value_in.result c.value_in.type_inv ∙ c.value_in.ensures ∙ ap (value_in_rule x_columns) r in
     let t = ret c.value_in-2.result c.value_in-2.type_inv ∙ c.value_in-2.ensures ∙ ap (value_in_rule y_columns) r in

@@ -42,46 +42,38 @@ module _ {first z : ℤ} (k : ℕ) (f : SFits w64 first) (b : to_z w64 (of_z w64
 
 pub loop-k-init : goal.loop-k-init
 unfolding joined
-loop-k-init c = (omega arith, below_all 0 _ (λ i l. absurd (omega arith)), refl)
-
-pub day_at-requires : goal.day_at-requires
-day_at-requires c = (rw (back c.ranges.first) c.requires.2, omega (arith, c.loop-k-test.true, c.requires.1))
+loop-k-init c = (below_all 0 _ (λ i l. absurd (omega arith)), refl)
 
 pub record_of-d-requires : goal.record_of-d-requires
 record_of-d-requires c =
     let r = c.requires.0 in
     let h = c.loop-k-test.true in
     let d = day_is c.loop-k.k c.ranges.first (ret c.day_at.result c.day_at.type_inv) c.day_at.ensures in
-    (r.listed, rw d (found r c.loop-k.k h), rw d (filled r c.loop-k.k h))
+    (rw d (found c.args.rows.listed r c.loop-k.k h), rw d (filled c.args.rows.listed r c.loop-k.k h))
 
 pub returns-then-not-in_ranges : goal.returns-then-not-in_ranges
 returns-then-not-in_ranges c =
     let g : SFits w64 (get_or c.args.tai.now c.loop-k.k (pos 0)) = search rules in
-    let d = record_is c.loop-k.k c.ranges.first (ret c.day_at.result c.day_at.type_inv) c.day_at.ensures c.args.text.now c.args.tai.now g c.record_of-d.ensures in
-    c.no_days.ensures
-    ∙ sym (refuses c.args.text.now c.args.first c.args.tai.now (below_fails (length c.args.tai.now) c.loop-k.k _ c.loop-k-test.true (sym (c.in_ranges.ensures ∙ ap in_ranges_rule d) ∙ c.if-not-in_ranges.true)))
-
-pub put_day-requires : goal.put_day-requires
-put_day-requires c = omega (arith, c.loop-k-test.true, c.requires.1)
+    let d = record_is c.loop-k.k c.ranges.first (ret c.day_at.result c.day_at.type_inv) c.day_at.ensures c.args.rows.text.now c.args.tai.now g c.record_of-d.ensures in
+    sym (refuses c.args.rows.text.now c.args.first c.args.tai.now (below_fails (length c.args.tai.now) c.loop-k.k _ c.loop-k-test.true (sym (c.in_ranges.ensures ∙ ap in_ranges_rule d) ∙ c.if-not-in_ranges.true)))
 
 pub loop-k-preserved : goal.loop-k-preserved
 loop-k-preserved c =
     let n = pos (length c.args.tai.now) in
     let k = c.loop-k.k in
     let g : SFits w64 (get_or c.args.tai.now k (pos 0)) = search rules in
-    let d = record_is c.loop-k.k c.ranges.first (ret c.day_at.result c.day_at.type_inv) c.day_at.ensures c.args.text.now c.args.tai.now g c.record_of-d.ensures in
-    let r = d ∙ ap (λ (z : ℤ). record_of_rule c.args.text.now z n c.args.tai.now k) (sym (back c.ranges.first)) in (
-      omega (arith, c.loop-k-test.true),
-      below_next k _ c.loop-k.invariant.1 (sym (c.in_ranges.ensures ∙ ap in_ranges_rule r) ∙ c.if-not-in_ranges.false),
+    let d = record_is c.loop-k.k c.ranges.first (ret c.day_at.result c.day_at.type_inv) c.day_at.ensures c.args.rows.text.now c.args.tai.now g c.record_of-d.ensures in
+    let r = d ∙ ap (λ (z : ℤ). record_of_rule c.args.rows.text.now z n c.args.tai.now k) (sym (back c.ranges.first)) in (
+      below_next k _ c.loop-k.invariant.0 (sym (c.in_ranges.ensures ∙ ap in_ranges_rule r) ∙ c.if-not-in_ranges.false),
       c.put_day.ensures
-          ∙ ap₂ (λ (xs : List ℤ) (e : Day). sets xs (6 * k) (numbers_of_rule e)) c.loop-k.invariant.2 r
-          ∙ store_next (λ (j : ℕ). numbers_of_rule (record_of_rule c.args.text.now (to_z w64 (of_z w64 c.args.first)) n c.args.tai.now j)) (λ i. refl) k (omega (arith, c.loop-k-test.true, c.requires.1)),
+          ∙ ap₂ (λ (xs : List ℤ) (e : Day). sets xs (6 * k) (numbers_of_rule e)) c.loop-k.invariant.1 r
+          ∙ store_next (λ (j : ℕ). numbers_of_rule (record_of_rule c.args.rows.text.now (to_z w64 (of_z w64 c.args.first)) n c.args.tai.now j)) (λ i. refl) k (omega (arith, c.loop-k-test.true, c.requires.1)),
     )
 
 pub returns : goal.returns
 returns c =
     let f = back c.ranges.first in
-    let e : c.loop-k.k ≡ length c.args.tai.now = omega (arith, c.loop-k.invariant.0, c.loop-k-test.false) in
-    let a = rw (e, f) at c.loop-k.invariant.1 in
-    let d = rw (e, f) at c.loop-k.invariant.2 in
-    ap days d ∙ sym (gives c.args.text.now c.args.first c.args.tai.now a)
+    let e : c.loop-k.k ≡ length c.args.tai.now = omega (arith, c.loop-k.auto.k-end, c.loop-k-test.false) in
+    let a = rw (e, f) at c.loop-k.invariant.0 in
+    let d = rw (e, f) at c.loop-k.invariant.1 in
+    ap days d ∙ sym (gives c.args.rows.text.now c.args.first c.args.tai.now a)

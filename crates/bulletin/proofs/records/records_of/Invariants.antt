@@ -1,7 +1,7 @@
 use mathlib.Core.Path.{◌≡◌}
 use mathlib.Core.Bool.{true}
 use mathlib.Core.List.{◌++◌}
-use Prim.Native.Nat.{ℕ, ◌-◌, ◌*◌, ◌≤◌}
+use Prim.Native.Nat.{ℕ, ◌-◌, ◌*◌}
 use lib.ListN.{length, replicate}
 use lib.IntN.{pos}
 use Rattle.whole.specs.Each.{all_below}
@@ -10,9 +10,5 @@ use Rattle.bulletin.specs.Reading.{in_ranges_rule, numbers_of_rule, record_of_ru
 use Rattle.bulletin.proofs.records.records_of.Given as goal
 
 abbrev pub invariant-loop-k : goal.invariant-loop-k
-invariant-loop-k l = (l.k ≤ length l.tai)
-    × (all_below l.k (λ (j : ℕ). in_ranges_rule (record_of_rule l.text l.first (pos (length l.tai)) l.tai j)) ≡ true)
-    × (l.days ≡ joined l.k (λ (j : ℕ). numbers_of_rule (record_of_rule l.text l.first (pos (length l.tai)) l.tai j)) ++ replicate (384 - 6 * l.k) (pos 0))
-
-abbrev pub decreases-loop-k : goal.decreases-loop-k
-decreases-loop-k l = length l.tai - l.k
+invariant-loop-k l = (all_below l.k (λ (j : ℕ). in_ranges_rule (record_of_rule l.rows.text.now l.first (pos (length l.tai)) l.tai j)) ≡ true)
+    × (l.days ≡ joined l.k (λ (j : ℕ). numbers_of_rule (record_of_rule l.rows.text.now l.first (pos (length l.tai)) l.tai j)) ++ replicate (384 - 6 * l.k) (pos 0))

@@ -43,31 +43,25 @@ module _ (dates : List ℤ) {first : ℤ} (b k : ℕ) (f : SFits w64 first) (e :
       next near = rw day (next_fits (first +ℤ pos k) (rw (first_is dates (first +ℤ pos k) found) at (near (first_in_rule dates (first +ℤ pos k)) found)))
 
 pub loop-k-init : goal.loop-k-init
-loop-k-init c = (omega arith, sym (plus_none _), below_all 0 _ (λ i l. absurd (omega arith)))
+loop-k-init c = (sym (plus_none _), below_all 0 _ (λ i l. absurd (omega arith)))
 
 pub returns-then-first_in-dates : goal.returns-then-first_in-dates
 returns-then-first_in-dates c =
     let dates = c.args.dates.now in
-    let p = place dates _ c.loop-k.k c.ranges.first c.loop-k.invariant.1 c.first_in.ensures in
-    let n : length dates ≤ first_in_rule dates (c.args.first +ℤ pos c.loop-k.k) = omega (arith, c.if-first_in-dates.true, p) in
-    let m : c.loop-k.k < pos_part c.args.count = omega (arith, c.loop-k-test.true, simp (back c.ranges.count) at c.above_zero-asked.ensures) in
-    sym (below_fails (pos_part c.args.count) c.loop-k.k _ m (le-ltb _ _ n))
+    let p = place dates _ c.loop-k._k c.ranges.first c.loop-k.invariant.0 c.first_in.ensures in
+    let n : length dates ≤ first_in_rule dates (c.args.first +ℤ pos c.loop-k._k) = omega (arith, c.if-first_in-dates.true, p) in
+    let m : c.loop-k._k < pos_part c.args.count = omega (arith, c.loop-k-test.true, simp (back c.ranges.count) at c.above_zero-k-end.ensures) in
+    sym (below_fails (pos_part c.args.count) c.loop-k._k _ m (le-ltb _ _ n))
 
 pub overflow_add-d : goal.overflow_add-d
-overflow_add-d c = next c.args.dates.now _ c.loop-k.k c.ranges.first c.loop-k.invariant.1 c.first_in.ensures c.if-first_in-dates.false c.requires
+overflow_add-d c = next c.args.dates.now _ c.loop-k._k c.ranges.first c.loop-k.invariant.0 c.first_in.ensures c.if-first_in-dates.false c.requires
 
 pub loop-k-preserved : goal.loop-k-preserved
 loop-k-preserved c =
     let dates = c.args.dates.now in
     let f = c.ranges.first in
-    let h = found dates _ c.loop-k.k f c.loop-k.invariant.1 c.first_in.ensures c.if-first_in-dates.false in
-    let g = next dates _ c.loop-k.k f c.loop-k.invariant.1 c.first_in.ensures c.if-first_in-dates.false c.requires in (
-      omega (arith, c.loop-k-test.true),
-      back g ∙ ap (λ (z : ℤ). z +ℤ pos 1) c.loop-k.invariant.1 ∙ plus-next (to_z w64 (of_z w64 c.args.first)) c.loop-k.k,
-      below_next c.loop-k.k _ c.loop-k.invariant.2 (rw (back f) (lt-ltb _ _ h)),
+    let h = found dates _ c.loop-k._k f c.loop-k.invariant.0 c.first_in.ensures c.if-first_in-dates.false in
+    let g = next dates _ c.loop-k._k f c.loop-k.invariant.0 c.first_in.ensures c.if-first_in-dates.false c.requires in (
+      back g ∙ ap (λ (z : ℤ). z +ℤ pos 1) c.loop-k.invariant.0 ∙ plus-next (to_z w64 (of_z w64 c.args.first)) c.loop-k._k,
+      below_next c.loop-k._k _ c.loop-k.invariant.1 (rw (back f) (lt-ltb _ _ h)),
     )
-
-pub returns : goal.returns
-returns c =
-    let e : c.loop-k.k ≡ pos_part c.args.count = omega (arith, c.loop-k.invariant.0, c.loop-k-test.false, simp (back c.ranges.count) at c.above_zero-asked.ensures) in
-    sym (rw (e, back c.ranges.first) at c.loop-k.invariant.2)

@@ -3,7 +3,6 @@ use borrow.Author.Rules.{rules}
 use mathlib.Core.Path.{◌≡◌, refl, sym, ap, ◌∙◌}
 use mathlib.Core.List.{List}
 use Prim.Native.Nat.{ℕ, ◌<◌}
-use native.Mathlib.Omega.{arith}
 use lib.IntN.{ℤ, pos}
 use lib.ListN.{length, get_or}
 use mir.Syntax.{w64}
@@ -40,27 +39,24 @@ module _ {text : List ℕ} {dates : List ℤ} {starts : List ℕ} (l : Listed te
 
 pub is_asked-requires : goal.is_asked-requires
 is_asked-requires c =
-    let f : SFits w64 (get_or c.args.dates.now c.args.i (pos 0)) = search rules in
-    rw (back f) (near c.requires.0 c.args.i c.requires.1)
+    let f : SFits w64 (get_or c.args.rows.dates.now c.args.i (pos 0)) = search rules in
+    rw (back f) (near c.args.rows.listed c.args.i c.requires)
 
 pub returns-then-not-is_asked : goal.returns-then-not-is_asked
 returns-then-not-is_asked c =
-    let f : SFits w64 (get_or c.args.dates.now c.args.i (pos 0)) = search rules in
-    let a = sym (asked_is c.requires.0 c.args.i c.requires.1 f c.ranges.first c.ranges.count c.is_asked.ensures) ∙ c.if-not-is_asked.true in
-    sym (not_asked c.requires.0 c.args.first c.args.count c.args.i a)
+    let f : SFits w64 (get_or c.args.rows.dates.now c.args.i (pos 0)) = search rules in
+    let a = sym (asked_is c.args.rows.listed c.args.i c.requires f c.ranges.first c.ranges.count c.is_asked.ensures) ∙ c.if-not-is_asked.true in
+    sym (not_asked c.args.rows.listed c.args.first c.args.count c.args.i a)
 
 pub returns-then-first_in-i : goal.returns-then-first_in-i
 returns-then-first_in-i c =
-    let f : SFits w64 (get_or c.args.dates.now c.args.i (pos 0)) = search rules in
-    let p = place_is c.requires.0 c.args.i c.requires.1 f c.first_in.ensures in
-    other_row c.requires.0 c.args.i c.requires.1 f c.args.first c.args.count (λ e. c.if-first_in-i.true (p ∙ e))
-
-pub row_at-requires : goal.row_at-requires
-row_at-requires c = (c.requires.0.stands c.args.i c.requires.1, omega (arith, c.requires.0.enough, c.requires.1))
+    let f : SFits w64 (get_or c.args.rows.dates.now c.args.i (pos 0)) = search rules in
+    let p = place_is c.args.rows.listed c.args.i c.requires f c.first_in.ensures in
+    other_row c.args.rows.listed c.args.i c.requires f c.args.first c.args.count (λ e. c.if-first_in-i.true (p ∙ e))
 
 pub returns : goal.returns
 returns c =
-    let f : SFits w64 (get_or c.args.dates.now c.args.i (pos 0)) = search rules in
-    let a = sym (asked_is c.requires.0 c.args.i c.requires.1 f c.ranges.first c.ranges.count c.is_asked.ensures) ∙ c.if-not-is_asked.false in
-    let p = place_is c.requires.0 c.args.i c.requires.1 f c.first_in.ensures in
-    c.is_filled.ensures ∙ ap is_filled_rule c.row_at.ensures ∙ sym (if_taken c.requires.0 c.args.first c.args.count c.args.i a (sym p ∙ c.if-first_in-i.false))
+    let f : SFits w64 (get_or c.args.rows.dates.now c.args.i (pos 0)) = search rules in
+    let a = sym (asked_is c.args.rows.listed c.args.i c.requires f c.ranges.first c.ranges.count c.is_asked.ensures) ∙ c.if-not-is_asked.false in
+    let p = place_is c.args.rows.listed c.args.i c.requires f c.first_in.ensures in
+    c.is_filled.ensures ∙ ap is_filled_rule c.row_at.ensures ∙ sym (if_taken c.args.rows.listed c.args.first c.args.count c.args.i a (sym p ∙ c.if-first_in-i.false))

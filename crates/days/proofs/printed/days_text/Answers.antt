@@ -28,21 +28,21 @@ module _ (rows : List ℕ) (first count : ℤ) (tai : List ℤ) (f : SFits w64 f
 pub returns-then-n-ge1 : goal.returns-then-n-ge1
 returns-then-n-ge1 c =
     let rows = c.args.rows.now in
-    let first = c.args.first in
-    let count = c.args.count in
-    let tai = c.args.tai.now in
-    let n = c.put_refused-line in
+    let first = c.args.a.first in
+    let count = c.args.a.count in
+    let tai = c.args.a.tai.now in
+    let n = c.put_refused in
     let e = refusal_is rows first count tai (record { sfits = omega arith }) (record { sfits = omega arith }) c.days_from_rows-d.result (record { sfits = omega arith }) c.days_from_rows-d.ensures in
     let y : le_z (pos 1) (days_outcome rows first count tai).refusal ≡ true = ap (le_z (pos 1)) (sym e) ∙ c.if-n-ge1.true in
     let w = ap refused_line e ∙ sym (refused_text rows first count tai y) in
     (subst (λ (bs : List ℕ). Put c.args.room.now 0 bs n.new.room n.result) w n.ensures, e)
 
-pub put_days-end-requires : goal.put_days-end-requires
-put_days-end-requires c =
+pub put_days-requires : goal.put_days-requires
+put_days-requires c =
     let rows = c.args.rows.now in
-    let first = c.args.first in
-    let count = c.args.count in
-    let tai = c.args.tai.now in
+    let first = c.args.a.first in
+    let count = c.args.a.count in
+    let tai = c.args.a.tai.now in
     let e = refusal_is rows first count tai (record { sfits = omega arith }) (record { sfits = omega arith }) c.days_from_rows-d.result (record { sfits = omega arith }) c.days_from_rows-d.ensures in
     -- it is given, and has no more than 64 records
     let f = answered_few rows first count tai (ap (le_z (pos 1)) (sym e) ∙ c.if-n-ge1.false) in
@@ -52,10 +52,10 @@ put_days-end-requires c =
 pub returns : goal.returns
 returns c =
     let rows = c.args.rows.now in
-    let first = c.args.first in
-    let count = c.args.count in
-    let tai = c.args.tai.now in
-    let g = c.put_days-end in
+    let first = c.args.a.first in
+    let count = c.args.a.count in
+    let tai = c.args.a.tai.now in
+    let g = c.put_days in
     let e = refusal_is rows first count tai (record { sfits = omega arith }) (record { sfits = omega arith }) c.days_from_rows-d.result (record { sfits = omega arith }) c.days_from_rows-d.ensures in
     let is = outcome-is rows first count tai (record { sfits = omega arith }) (record { sfits = omega arith }) c.days_from_rows-d.result c.days_from_rows-d.ensures in
     let y : le_z (pos 1) (days_outcome rows first count tai).refusal ≡ false = ap (le_z (pos 1)) (sym e) ∙ c.if-n-ge1.false in

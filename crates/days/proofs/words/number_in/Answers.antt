@@ -7,6 +7,7 @@ use Rattle.whole.proofs.Linear.{ret}
 use Rattle.text.specs.Decimal.{read}
 use Rattle.days.specs.Words.{few_digits_rule, is_number}
 use Rattle.days.proofs.WordLaws.{digits_all, digits_few, number_fits, number_yes, number_no}
+use Rattle.std.specs.Prelude.{Some}
 use Rattle.days.proofs.words.number_in.Goals as goal
 
 pub returns-then-not-few_digits : goal.returns-then-not-few_digits
@@ -22,8 +23,8 @@ read_natural-requires c =
     let y : few_digits_rule c.past_minus-digits.result.now ≡ true = sym c.few_digits.ensures ∙ c.if-not-few_digits.false in
     (digits_all _ y, omega (arith, digits_few _ y))
 
-pub with_sign-value-requires : goal.with_sign-value-requires
-with_sign-value-requires c =
+pub with_sign-requires : goal.with_sign-requires
+with_sign-requires c =
     let y : few_digits_rule c.past_minus-digits.result.now ≡ true = sym c.few_digits.ensures ∙ c.if-not-few_digits.false in
     omega (arith, c.read_natural.ensures, number_fits _ y)
 
@@ -33,5 +34,5 @@ returns c =
     let are = c.few_digits.ensures ∙ ap few_digits_rule c.past_minus-digits.ensures in
     let yes : is_number s ≡ true = sym are ∙ c.if-not-few_digits.false in
     let n = c.read_natural.ensures ∙ ap read c.past_minus-digits.ensures in
-    let v = ret c.with_sign-value.result c.with_sign-value.type_inv ∙ c.with_sign-value.ensures ∙ ap₂ sign_of c.is_minus.ensures n in
-    (λ i. record { right = true; value = v i }) ∙ number_yes s yes
+    let v = ret c.with_sign.result c.with_sign.type_inv ∙ c.with_sign.ensures ∙ ap₂ sign_of c.is_minus.ensures n in
+    ap Some v ∙ number_yes s yes
