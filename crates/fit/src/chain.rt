@@ -1,125 +1,116 @@
-// The chain of the samples that can still set the least rate: x holds their places in the run, v their tilted values, q the rate from which each is better
-// than the one before it. See specs/Chains.antt.
-ghost use Rattle.std.specs.Prelude.{◌≡◌, ◌+◌, ◌-◌, ◌/◌, ◌<◌, ◌≤◌, get_or};
-ghost use Rattle.fit.specs.Rates.{tilt};
-ghost use Rattle.fit.specs.Chains.{Safe, Full, left_at, Paired, Asked, Keeping, Added};
+// The chain of the samples that can still set the least rate of a run. See specs/Chains.antt.
+ghost use Rattle.std.specs.Prelude.{◌≡◌, ◌+◌, ◌-◌, ◌<◌, ◌≤◌, get_or};
 
-use super::samples::larger;
-
-// The least rate that the sample `next` leaves with the one at i on the chain; `top` is one below its tilted value less twice the tolerance.
-fn left_at(x: &[u32; 1024], v: &[u64; 1024], i: usize, next: u32, top: u64) -> u64
-    requires { (i < 1024) × (get_or x.now i 0 < next) × (get_or v.now i 0 ≤ top) }
-    ensures { result ≡ left_at x.now v.now i next top }
-{
-    let k = x[i];
-    let y = v[i];
-    (top - y) / ((next - k) as u64)
+// A sample on a chain: its place in the run, its tilted value, and the rate from which it is better than the one before it.
+#[derive(Clone, Copy)]
+struct Step {
+    place: u32,
+    value: u64,
+    from: u64,
 }
 
-// Makes the chain of the first two samples, of which `start` and `next` are the tilted values, and answers the least rate that they leave.
-pub fn pair(
-    x: &mut [u32; 1024],
-    v: &mut [u64; 1024],
-    q: &mut [u64; 1024],
-    start: u64,
-    next: u64,
-    slack: u64,
-) -> u64
-    requires slack_bound { start + slack < next }
-    requires full { Full x.old v.old q.old }
-    ensures { Full x.new v.new q.new × Paired tilt x.new v.new q.new start next slack result }
-{
-    let p = next - start - 1;
-    x[0] = 0;
-    x[1] = 1;
-    v[0] = start;
-    v[1] = next;
-    q[1] = p;
-    p - slack
-}
-
-// A place on a chain, and a rate found there.
+// The steps from `head` to `tail` are on the chain; the others are scratch: there is no heap, and so no `VecDeque`. A place has 32 bits, so that it is divided by as
+// a number of 32 bits. The loops below work out a rate at each step and stop at the first that decides, `keep` from the tail on: a `for` would be no plainer.
+// `Safe` is of a chain and of the sample that comes next, with a slack of its own for each use: it stays a clause.
 #[derive(Drop)]
-pub struct Found {
-    pub at: usize,
-    pub rate: u64,
-}
-
-// The least rate from `least` on that the sample `next` leaves with each sample before it, found on their chain; and where the chain then starts.
-pub fn ask(
-    x: &[u32; 1024],
-    v: &[u64; 1024],
-    q: &[u64; 1024],
+pub struct Chain {
+    steps: [Step; 1024],
     head: usize,
     tail: usize,
-    next: u32,
-    height: u64,
-    slack: u64,
-    least: u64,
-) -> Found
-    requires safe { Safe x.now v.now head tail next height slack }
-    requires tail_bound { tail < 1024 }
-    ensures { (head ≤ result.at) × (result.at ≤ tail) × Asked tilt x.now v.now q.now head tail next height slack least result.at result.rate }
-{
-    let top = height - slack - 1;
-    let mut i = head;
-    let mut p = larger(least, left_at(x, v, i, next, top));
-    while i < tail {
-        if p < q[i + 1] {
-            return Found { at: i, rate: p };
-        }
-        i += 1;
-        p = larger(p, left_at(x, v, i, next, top));
+    ghost some: { head ≤ tail },
+    ghost few: { tail < 1024 },
+}
+
+impl Chain {
+    ghost use Rattle.fit.specs.Rates.{tilt};
+    ghost use Rattle.fit.specs.Chains.{places, values, froms, Safe, left_at, Paired, Asked, Keeping, Added};
+
+    // Scratch, which `pair` makes a chain.
+    pub const SCRATCH: Chain = Chain {
+        steps: [Step {
+            place: 0,
+            value: 0,
+            from: 0,
+        }; 1024],
+        head: 0,
+        tail: 0,
+    };
+
+    // The least rate that the sample `next` leaves with the one at i; `top` is one below its tilted value less twice the tolerance.
+    fn left_at(&self, i: usize, next: u32, top: u64) -> u64
+        requires { (i < 1024) × (get_or (places self.now.steps) i 0 < next) × (get_or (values self.now.steps) i 0 ≤ top) }
+        ensures { result ≡ left_at (places self.now.steps) (values self.now.steps) i next top }
+    {
+        let step = self.steps[i];
+        (top - step.value) / ((next - step.place) as u64)
     }
-    Found { at: i, rate: p }
-}
 
-// Where the chain ends once the samples go that `next` makes needless, and the rate from which `next` is better than the last that stays.
-fn keep(
-    x: &[u32; 1024],
-    v: &[u64; 1024],
-    q: &[u64; 1024],
-    head: usize,
-    tail: usize,
-    next: u32,
-    height: u64,
-) -> Found
-    requires safe { Safe x.now v.now head tail next height 0 }
-    requires tail_bound { tail < 1024 }
-    ensures { (head ≤ result.at) × (result.at ≤ tail) × (head < result.at → get_or q.now result.at 0 ≤ result.rate) × Keeping tilt x.now v.now q.now head tail next height result.at result.rate }
-{
-    let top = height - 1;
-    let mut i = tail;
-    let mut p = left_at(x, v, i, next, top);
-    while head < i {
-        if q[i] < p {
-            return Found { at: i, rate: p };
-        }
-        i -= 1;
-        p = left_at(x, v, i, next, top);
+    // Makes it the chain of the first two samples, of which `first` and `second` are the tilted values, and answers the least rate that they leave.
+    pub(crate) fn pair(&mut self, first: u64, second: u64, slack: u64) -> u64
+        requires { first + slack < second }
+        ensures { Paired tilt (places self.new.steps) (values self.new.steps) (froms self.new.steps) first second slack result × (self.new.head ≡ 0) × (self.new.tail ≡ 1) }
+    {
+        let from = second - first - 1;
+        self.steps[0] = Step {
+            place: 0,
+            value: first,
+            from: 0,
+        };
+        self.steps[1] = Step {
+            place: 1,
+            value: second,
+            from,
+        };
+        self.head = 0;
+        self.tail = 1;
+        from - slack
     }
-    Found { at: i, rate: p }
-}
 
-// Puts the sample `next` behind the chain, and answers where the chain then ends.
-pub fn add(
-    x: &mut [u32; 1024],
-    v: &mut [u64; 1024],
-    q: &mut [u64; 1024],
-    head: usize,
-    tail: usize,
-    next: u32,
-    height: u64,
-) -> usize
-    requires safe { Safe x.old v.old head tail next height 0 }
-    requires tail_bound { tail < 1023 }
-    requires full { Full x.old v.old q.old }
-    ensures { Full x.new v.new q.new × (head ≤ result) × (result ≤ tail + 1) × Added tilt x.old v.old q.old head tail next height x.new v.new q.new result }
-{
-    let k = keep(x, v, q, head, tail, next, height);
-    let y = k.at + 1;
-    x[y] = next;
-    v[y] = height;
-    q[y] = k.rate;
-    y
+    // The least rate from `least` on that the sample `next` leaves with each sample before it. The samples that can no longer set it leave at the head.
+    pub(crate) fn ask(&mut self, next: u32, height: u64, slack: u64, least: u64) -> u64
+        requires { Safe (places self.old.steps) (values self.old.steps) self.old.head self.old.tail next height slack }
+        ensures { (self.new.steps ≡ self.old.steps) × (self.new.tail ≡ self.old.tail) × (self.old.head ≤ self.new.head) × Asked tilt (places self.old.steps) (values self.old.steps) (froms self.old.steps) self.old.head self.old.tail next height slack least self.new.head result }
+    {
+        let top = height - slack - 1;
+        let mut i = self.head;
+        let mut p = least.max(self.left_at(i, next, top));
+        while i < self.tail && self.steps[i + 1].from <= p {
+            i += 1;
+            p = p.max(self.left_at(i, next, top));
+        }
+        self.head = i;
+        p
+    }
+
+    // The samples that `next` makes needless leave at the tail; answers the rate from which `next` is better than the last that stays.
+    fn keep(&mut self, next: u32, height: u64) -> u64
+        requires { Safe (places self.old.steps) (values self.old.steps) self.old.head self.old.tail next height 0 }
+        ensures { (self.new.steps ≡ self.old.steps) × (self.new.head ≡ self.old.head) × (self.new.tail ≤ self.old.tail) × (self.old.head < self.new.tail → get_or (froms self.old.steps) self.new.tail 0 ≤ result) × Keeping tilt (places self.old.steps) (values self.old.steps) (froms self.old.steps) self.old.head self.old.tail next height self.new.tail result }
+    {
+        let top = height - 1;
+        let mut i = self.tail;
+        let mut p = self.left_at(i, next, top);
+        while self.head < i && p <= self.steps[i].from {
+            i -= 1;
+            p = self.left_at(i, next, top);
+        }
+        self.tail = i;
+        p
+    }
+
+    // Puts the sample `next` behind the chain.
+    pub(crate) fn add(&mut self, next: u32, height: u64)
+        requires safe { Safe (places self.old.steps) (values self.old.steps) self.old.head self.old.tail next height 0 }
+        requires room { self.old.tail < 1023 }
+        ensures { (self.new.head ≡ self.old.head) × (self.new.tail ≤ self.old.tail + 1) × Added tilt (places self.old.steps) (values self.old.steps) (froms self.old.steps) self.old.head self.old.tail next height (places self.new.steps) (values self.new.steps) (froms self.new.steps) self.new.tail }
+    {
+        let from = self.keep(next, height);
+        let i = self.tail + 1;
+        self.steps[i] = Step {
+            place: next,
+            value: height,
+            from,
+        };
+        self.tail = i;
+    }
 }

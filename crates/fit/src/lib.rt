@@ -2,7 +2,7 @@
 // Document 01, 'Track'. See specs/Line.antt for what a fit is, and specs/Rates.antt for the numbers that the code works with.
 #![tactic(auto)]
 
-mod chain;
+pub mod chain;
 pub mod line;
 pub mod run;
-mod samples;
+pub mod samples;

@@ -1,10 +1,10 @@
 // The line of a run: its rate and its offset by the rule.
 ghost use Rattle.std.specs.Prelude.{◌≡◌, cond, ◌+◌, ◌*◌, ◌≤◌, T, eqb, length};
 ghost use Rattle.std.proofs.Math.IntN.{sub_ℕ};
-ghost use Rattle.fit.specs.Line.{Small};
 ghost use Rattle.fit.specs.Rates.{scaled, tilt, lo, hi, off, fit_of, least, offset_of, rate_of_rule};
 
-use super::samples::{above, larger, scaled_at};
+use super::run::Run;
+use super::samples::{LIFT, Samples, TILT};
 
 // An offset and a rate, both in 1/65,536 ps.
 #[derive(Drop)]
@@ -13,31 +13,25 @@ pub struct Line {
     pub rate: i64,
 }
 
-// The rate of a run of c samples, of which the least that fits is l: 0 for one sample.
-fn rate_of(c: usize, l: u64) -> u64
-    ensures { result ≡ cond (eqb c 1) tilt l }
+// The rate of a run, tilted: the least that fits, and 0 for one sample.
+fn rate_of(run: Run) -> u64
+    ensures { result ≡ cond (eqb run.count 1) tilt run.least }
 {
-    if c == 1 { 17_040_000_000_000_000 } else { l }
+    if run.count == 1 { TILT } else { run.least }
 }
 
-// The least offset at the rate p, which the `count` samples from `first` leave.
-fn offset_of(samples: &[i64], tolerance: u64, first: usize, count: usize, p: u64) -> u64
-    requires count_in_bounds { first + count ≤ length samples.now }
-    requires small { Small samples.now }
-    requires tolerance_bound { (tolerance ≤ 1_000_000) × (count ≤ 1024) }
-    requires count_bound { (lo (scaled samples.now) (65536 * tolerance) tilt first count ≤ p) × (p ≤ hi (scaled samples.now) (65536 * tolerance) tilt first count) }
-    ensures { result ≡ off (scaled samples.now) (65536 * tolerance) tilt p first count }
+// The least offset at the rate p, lifted, which the `count` samples from `first` leave.
+fn offset_of(samples: Samples, first: usize, count: usize, p: u64) -> u64
+    requires count_in_bounds { (first + count ≤ length samples.values.now) × (count ≤ 1024) }
+    requires count_bound { (lo (scaled samples.values.now) (65536 * samples.tolerance) tilt first count ≤ p) × (p ≤ hi (scaled samples.values.now) (65536 * samples.tolerance) tilt first count) }
+    ensures { result ≡ off (scaled samples.entry.values.now) (65536 * samples.entry.tolerance) tilt p first count }
 {
-    let w = 65536 * tolerance;
+    let w = 65536 * samples.tolerance;
     let mut a: u64 = 0;
-    let mut j: usize = 0;
-    while j < count {
-        let b = scaled_at(samples, first + j);
+    for j in 0..count {
         let k = j as u64;
-        let u = 17_040_000_000_000_000 * k + b;
-        let v = w + p * k;
-        a = larger(a, above(u, v));
-        j += 1;
+        let u = TILT * k + samples.scaled_at(first + j);
+        a = a.max(u.saturating_sub(w + p * k));
     }
     a
 }
@@ -50,18 +44,16 @@ fn signed(a: u64, b: u64) -> i64
     (a as i64) - (b as i64)
 }
 
-// The line of the `count` samples from `first`, which some line fits and whose least rate is l.
-pub fn line_of(samples: &[i64], tolerance: u64, first: usize, count: usize, l: u64) -> Line
-    requires le_count { (1 ≤ count) × (count ≤ 1024) × (first + count ≤ length samples.now) }
-    requires small { Small samples.now }
-    requires tolerance_bound { tolerance ≤ 1_000_000 }
-    requires t { T (fit_of samples.now tolerance first count) × (l ≡ least samples.now tolerance first count) }
-    ensures { (result.offset ≡ offset_of samples.now tolerance first count) × (result.rate ≡ rate_of_rule samples.now tolerance first count) }
+// The line of the run from `first`, which some line fits.
+pub fn line_of(samples: Samples, first: usize, run: Run) -> Line
+    requires le_count { (1 ≤ run.count) × (run.count ≤ 1024) × (first + run.count ≤ length samples.values.now) }
+    requires fits { T (fit_of samples.values.now samples.tolerance first run.count) × (run.least ≡ least samples.values.now samples.tolerance first run.count) }
+    ensures { (result.offset ≡ offset_of samples.entry.values.now samples.entry.tolerance first run.count) × (result.rate ≡ rate_of_rule samples.entry.values.now samples.entry.tolerance first run.count) }
 {
-    let p = rate_of(count, l);
-    let a = offset_of(samples, tolerance, first, count, p);
+    let p = rate_of(run);
+    let a = offset_of(samples, first, run.count, p);
     Line {
-        offset: signed(a, 8_519_745_536_000_000),
-        rate: signed(p, 17_040_000_000_000_000),
+        offset: signed(a, LIFT),
+        rate: signed(p, TILT),
     }
 }

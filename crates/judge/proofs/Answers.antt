@@ -14,7 +14,9 @@ use Rattle.whole.specs.Refusals.{unless, first_of}
 use Rattle.whole.proofs.Answers.{given-each}
 use Rattle.whole.proofs.Linear.{no_ft}
 use Rattle.whole.proofs.Refusals.{end, test, in_order}
-use Rattle.whole.proofs.Tests.{no_and, and_no, and_false}
+use Rattle.whole.proofs.Tests.{no_and, and_no, and_false, same_test}
+use Rattle.whole.proofs.Each.{below_each, below_all}
+use Rattle.whole.specs.Each.{all_below}
 use Rattle.track.specs.Answer.{in_range}
 use Rattle.predict.specs.Lent.{lent_of, lent_at, range_ok_rule}
 use Rattle.predict.proofs.Numbers.{lent_of_more, lent_of_none}
@@ -61,6 +63,19 @@ module _ (numbers : List ℤ) where
 
   pub out_some : OutOfRange numbers → ranges_ok_rule (lent_of numbers) ≡ false
   out_some o = past 0 o.segment (omega (arith, o.whole)) (subst (λ (n : ℕ). range_ok_rule (lent_at numbers n) ≡ false) (omega arith) o.out)
+
+-- as a search over the segments' numbers goes through them
+sure : (b : Bool) → (b ≡ false → ⊥) → b ≡ true
+sure true h = refl
+sure false h = absurd (h refl)
+
+pub ranges_each : (numbers : List ℤ) → all_below (length numbers / 4) (λ i. range_ok_rule (lent_at numbers i)) ≡ ranges_ok_rule (lent_of numbers)
+ranges_each numbers = same_test (all_below (length numbers / 4) p) (ranges_ok_rule (lent_of numbers))
+    (λ h. sure (ranges_ok_rule (lent_of numbers)) (λ e. let o = some_out numbers e in no_ft (sym o.out ∙ below_each (length numbers / 4) o.segment p o.whole h)))
+    (λ h. below_all (length numbers / 4) p (λ i l. sure (p i) (λ e. no_ft (sym (out_some numbers (record { segment = i; whole = l; out = e })) ∙ h))))
+  where
+    p : ℕ → Bool
+    p i = range_ok_rule (lent_at numbers i)
 
 module _ (s : List ℤ) (t : ℤ) (numbers : List ℤ) where
   -- the numbers stand in their order, so the lowest is the first

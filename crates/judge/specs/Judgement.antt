@@ -1,5 +1,5 @@
 -- Document 02, L7: what is said of a track that was made elsewhere. It is judged by its whole segments, each as `Lent`; numbers behind the last are not read.
-use Rattle.std.specs.Prelude.{ℕ, ◌+◌, ◌*◌, Bool, true, ◌&&◌, List, [], ◌∷◌, eqb, leb, length, ℤ, pos}
+use Rattle.std.specs.Prelude.{ℕ, ◌+◌, ◌*◌, Bool, true, ◌&&◌, List, [], ◌∷◌, eqb, leb, length, ℤ, pos, Option, Some, None}
 use Rattle.whole.specs.Whole.{pos_part, ∣◌∣}
 use Rattle.whole.specs.Each.{all_below}
 use Rattle.whole.specs.Answers.{given}
@@ -9,6 +9,8 @@ use Rattle.track.specs.Answer.{in_range}
 use Rattle.predict.specs.declared.segment.Lent.{Lent}
 use Rattle.predict.specs.Lent.{lent_of, place_in_rule, length_ok_rule, range_ok_rule}
 use Rattle.judge.specs.declared.Judgement.{Judgement}
+use Rattle.judge.specs.declared.faults.Fault.{Fault}
+use Rattle.judge.specs.declared.faults.Fault.TheVariants.{Place, Length, Sample}
 
 -- ---- the faults of a segment, where `at` samples stand before it
 
@@ -23,6 +25,16 @@ samples_ok_rule s t at x = all_below (pos_part x.count) (near_at s (65536 * t) x
 -- why it is at fault, in this order: 1 for its place, 2 for its length, 3 for a sample; 0 where it is not at fault
 unfoldable pub fault_of_rule : List ℤ → ℕ → ℕ → Lent → ℕ
 fault_of_rule s t at x = first_of (unless (place_in_rule (length s) at x) 1 ∷ unless (length_ok_rule x) 2 ∷ unless (samples_ok_rule s t at x) 3 ∷ [])
+
+-- as an enum of the code: the number of each, and that of none
+abbrev pub fault_number : Fault → ℕ
+fault_number Place = 1
+fault_number Length = 2
+fault_number Sample = 3
+
+abbrev pub fault_in : Option Fault → ℕ
+fault_in None = 0
+fault_in (Some f) = fault_number f
 
 -- ---- the judgement
 

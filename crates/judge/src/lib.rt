@@ -2,14 +2,20 @@
 // specs/Judgement.antt says what is accepted and which fault is named; specs/Accepted.antt that only tracks of the samples are accepted.
 #![tactic(auto)]
 
+ghost use Rattle.std.specs.Prelude.{◌≡◌};
+ghost use Rattle.whole.specs.Refusals.{number_of};
+ghost use Rattle.judge.specs.Judgement.{no_judgement};
 ghost use Rattle.judge.specs.Promises.{JudgePromise};
 
+use fit::samples::Samples;
 use track::range::call_in_range;
+use whole::Refusal;
 
 pub mod faults;
 mod near;
 mod ranges;
 
+// C reads it, so a refusal, a fault and the segment at fault are numbers; 0 where there is none.
 #[repr(C)]
 #[derive(Drop)]
 pub struct Judgement {
@@ -18,23 +24,32 @@ pub struct Judgement {
     pub segment: i64,
 }
 
+// That of a refused call.
+impl From<Refusal> for Judgement {
+    ghost from_gives = { λ r j. j ≡ no_judgement (number_of r) };
+
+    fn from(r: Refusal) -> Judgement {
+        Judgement {
+            refusal: r.number(),
+            fault: 0,
+            segment: 0,
+        }
+    }
+}
+
 // Accepted, or the first segment at fault and why.
 pub fn judge(samples: &[i64], tolerance: i64, track: &[i64]) -> Judgement
     ensures { JudgePromise samples.now tolerance track.now result }
 {
     if !call_in_range(samples, tolerance) {
-        return Judgement {
-            refusal: 2,
-            fault: 0,
-            segment: 0,
-        };
+        return Judgement::from(Refusal::Range);
     }
     if !ranges::ranges_ok(track) {
-        return Judgement {
-            refusal: 9,
-            fault: 0,
-            segment: 0,
-        };
+        return Judgement::from(Refusal::Malformed);
     }
-    faults::first_fault(samples, tolerance as u64, track)
+    let samples = Samples {
+        values: samples,
+        tolerance: tolerance as u64,
+    };
+    faults::first_fault(samples, track)
 }

@@ -11,7 +11,9 @@ use Rattle.fit.proofs.Tests.{lt_or}
 use Rattle.whole.specs.declared.Number.{Number}
 use Rattle.predict.specs.declared.Host.{Host}
 use Rattle.whole.specs.Answers.{given, no_number_rule}
-use Rattle.whole.specs.Refusals.{unless, lowest}
+use Rattle.whole.specs.Refusals.{unless, lowest, number_of}
+use Rattle.whole.specs.declared.refusal.Refusal.{Refusal}
+use Rattle.whole.specs.declared.refusal.Refusal.TheVariants.{Contents, Range, Order, Days, Absent, Uncovered, Room, RoomForTrack, Malformed, Row, NoRow}
 use Rattle.whole.proofs.Answers.{answer-refusal}
 use Rattle.predict.specs.declared.segment.Lent.{Lent}
 use Rattle.predict.specs.Lent.{lent_of, sound_from, covered_by, prediction_at_rule, predict_number, predict_outcome, answer_at}
@@ -26,6 +28,20 @@ pub one_host : (s : List ℤ) (k : ℕ) (x y : Host) → HostPromise s k x → H
 one_host s k x y p q = p ∙ sym q
 
 -- ---- the number
+
+-- a refusal's is never 0
+pub number_some : (r : Refusal) → number_of r ≡ 0 → ⊥
+number_some Contents e = omega arith
+number_some Range e = omega arith
+number_some Order e = omega arith
+number_some Days e = omega arith
+number_some Absent e = omega arith
+number_some Uncovered e = omega arith
+number_some Room e = omega arith
+number_some RoomForTrack e = omega arith
+number_some Malformed e = omega arith
+number_some Row e = omega arith
+number_some NoRow e = omega arith
 
 both : (a b : Bool) → lowest (unless a 9 ∷ unless b 9 ∷ []) ≡ unless (a && b) 9
 both true true = refl

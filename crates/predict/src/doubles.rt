@@ -1,4 +1,4 @@
-// The host record of one prediction.
+// The host record of one prediction. No `From`, since it asks for a range in which the products are exact.
 ghost use Rattle.std.specs.Prelude.{◌≡◌, ◌≤◌};
 ghost use Rattle.whole.specs.Whole.{∣◌∣};
 ghost use Rattle.predict.specs.Host.{record_of_rule};

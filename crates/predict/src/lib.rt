@@ -2,9 +2,10 @@
 // specs/Lent.antt says which tracks are malformed and what a sound one predicts; specs/Host.antt what the record holds.
 #![tactic(auto)]
 
+ghost use Rattle.whole.specs.Answers.{answer_in};
 ghost use Rattle.predict.specs.Promises.{PredictPromise, HostPromise};
 
-use whole::Number;
+use whole::{Number, Refusal};
 
 mod doubles;
 mod lent;
@@ -14,11 +15,15 @@ pub mod segment;
 pub fn predict(track: &[i64], sample: u64) -> Number
     ensures { PredictPromise track.now sample result }
 {
+    Number::from(prediction(track, sample))
+}
+
+// The same as a result. All segments are looked at first, so that one which is malformed behind the sample refuses the call.
+fn prediction(track: &[i64], sample: u64) -> Result<i64, Refusal>
+    ensures { PredictPromise track.now sample (answer_in result) }
+{
     if !lent::sound(track) {
-        return Number {
-            refusal: 9,
-            value: 0,
-        };
+        return Err(Refusal::Malformed);
     }
     lent::prediction_at(track, sample)
 }
@@ -31,6 +36,7 @@ pub struct Record {
     pub cycles: f64,
 }
 
+// C reads it, so a refusal's number stands beside the record; where refused, the record is zeros.
 #[repr(C)]
 #[derive(Drop)]
 pub struct Host {
@@ -42,18 +48,17 @@ pub struct Host {
 pub fn host_at(track: &[i64], sample: u64) -> Host
     ensures { HostPromise track.now sample result }
 {
-    let n = predict(track, sample);
-    if n.refusal == 0 {
-        return Host {
+    match prediction(track, sample) {
+        Ok(ps) => Host {
             refusal: 0,
-            record: doubles::record_of(n.value),
-        };
-    }
-    Host {
-        refusal: n.refusal,
-        record: Record {
-            seconds: 0.0,
-            cycles: 0.0,
+            record: doubles::record_of(ps),
+        },
+        Err(r) => Host {
+            refusal: r.number(),
+            record: Record {
+                seconds: 0.0,
+                cycles: 0.0,
+            },
         },
     }
 }

@@ -6,7 +6,7 @@
 ghost use Rattle.track.specs.Promises.{TrackPromise};
 
 pub use make::make_track;
-use whole::Number;
+use whole::{Number, Refusal};
 
 mod count;
 mod make;
@@ -18,10 +18,7 @@ pub fn track(samples: &[i64], tolerance: i64, room: &mut [i64]) -> Number
     ensures { TrackPromise samples.now tolerance room.old result room.new }
 {
     if !range::call_in_range(samples, tolerance) {
-        return Number {
-            refusal: 2,
-            value: 0,
-        };
+        return Number::from(Err(Refusal::Range));
     }
     make_track(samples, tolerance, room)
 }

@@ -11,30 +11,37 @@ pub returns-then-not-call_in_range : goal.returns-then-not-call_in_range
 returns-then-not-call_in_range c =
     let a = c.args in
     let says : c.call_in_range.result ≡ in_range a.samples.now a.tolerance = c.call_in_range.ensures ∙ ap (in_range a.samples.now) (back c.ranges.tolerance) in
-    sym (answer_2 a.samples.now a.tolerance a.track.now (sym says ∙ c.if-not-call_in_range.true))
+    c.from.ensures ∙ sym (answer_2 a.samples.now a.tolerance a.track.now (sym says ∙ c.if-not-call_in_range.true))
 
 pub returns-then-not-ranges_ok : goal.returns-then-not-ranges_ok
 returns-then-not-ranges_ok c =
     let a = c.args in
-    sym (answer_9 a.samples.now a.tolerance a.track.now
+    c.from-then-not-ranges_ok.ensures
+    ∙ sym (answer_9 a.samples.now a.tolerance a.track.now
     (sym (c.call_in_range.ensures ∙ ap (in_range a.samples.now) (back c.ranges.tolerance)) ∙ c.if-not-call_in_range.false)
     (sym c.ranges_ok.ensures ∙ c.if-not-ranges_ok.true))
 
-pub overflow_cast-tolerance : goal.overflow_cast-tolerance
-overflow_cast-tolerance c =
+pub overflow_cast-samples : goal.overflow_cast-samples
+overflow_cast-samples c =
     let a = c.args in
     let says : c.call_in_range.result ≡ in_range a.samples.now a.tolerance = c.call_in_range.ensures ∙ ap (in_range a.samples.now) (back c.ranges.tolerance) in
     let given = ranged a.samples.now a.tolerance (sym says ∙ c.if-not-call_in_range.false) in
     let tol = handed_on _ _ (back c.ranges.tolerance) given in
     tol.cast
 
-pub first_fault-requires-clause-small : goal.first_fault-requires-clause-small
-first_fault-requires-clause-small c =
+pub invariant_of-samples : goal.invariant_of-samples
+invariant_of-samples c =
     let a = c.args in
     let says : c.call_in_range.result ≡ in_range a.samples.now a.tolerance = c.call_in_range.ensures ∙ ap (in_range a.samples.now) (back c.ranges.tolerance) in
     let given = ranged a.samples.now a.tolerance (sym says ∙ c.if-not-call_in_range.false) in
     let tol = handed_on _ _ (back c.ranges.tolerance) given in
-    (given.small, given.few, tol.most)
+    record { small = given.small; near = tol.most }
+
+pub first_fault-requires-clause-few : goal.first_fault-requires-clause-few
+first_fault-requires-clause-few c =
+    let a = c.args in
+    let says : c.call_in_range.result ≡ in_range a.samples.now a.tolerance = c.call_in_range.ensures ∙ ap (in_range a.samples.now) (back c.ranges.tolerance) in
+    (ranged a.samples.now a.tolerance (sym says ∙ c.if-not-call_in_range.false)).few
 
 pub returns : goal.returns
 returns c =

@@ -1,4 +1,4 @@
--- `fit::line_of` meets its contract.
+-- `line_of` meets its contract.
 use Rattle.std.proofs.Common.{◌≡◌, ◌*◌, ◌≤◌, List, cond, ℕ, ℤ, sym, ap, ◌∙◌, subst, arith}
 use lib.Dec.{eqb}
 use lib.IntN.{sub_ℕ}
@@ -20,35 +20,35 @@ pub offset_of-a-requires-clause-count_bound : goal.offset_of-a-requires-clause-c
 offset_of-a-requires-clause-count_bound c =
     let x = c.args in
     let q = c.requires in
-    let r = rated x.samples.now x.tolerance x.first x.count x.l c.rate_of-p.result q.t.1 c.rate_of-p.ensures in (
-      subst (λ (z : ℕ). lo (scaled x.samples.now) (65536 * x.tolerance) tilt x.first x.count ≤ z) (sym r) (tilted-low x.samples.now x.tolerance q.small q.tolerance_bound x.first x.count),
-      subst (λ (z : ℕ). z ≤ hi (scaled x.samples.now) (65536 * x.tolerance) tilt x.first x.count) (sym r) (tilted_high x.samples.now x.tolerance q.small q.tolerance_bound x.first x.count q.t.0),
+    let r = rated x.samples.values.now x.samples.tolerance x.first x.run.count x.run.least c.rate_of-p.result q.fits.1 c.rate_of-p.ensures in (
+      subst (λ (z : ℕ). lo (scaled x.samples.values.now) (65536 * x.samples.tolerance) tilt x.first x.run.count ≤ z) (sym r) (tilted-low x.samples.values.now x.samples.tolerance x.samples.small x.samples.near x.first x.run.count),
+      subst (λ (z : ℕ). z ≤ hi (scaled x.samples.values.now) (65536 * x.samples.tolerance) tilt x.first x.run.count) (sym r) (tilted_high x.samples.values.now x.samples.tolerance x.samples.small x.samples.near x.first x.run.count q.fits.0),
     )
 
 pub signed-requires : goal.signed-requires
 signed-requires c =
     let x = c.args in
     let q = c.requires in
-    let r = rated x.samples.now x.tolerance x.first x.count x.l c.rate_of-p.result q.t.1 c.rate_of-p.ensures in
-    let o = offs x.samples.now x.tolerance x.first x.count c.rate_of-p.result c.offset_of-a.result r c.offset_of-a.ensures in
-    (subst (λ (z : ℕ). z ≤ 2 * tilt) (sym o) (lifted-top x.samples.now x.tolerance q.small q.tolerance_bound x.first x.count q.le_count.0 q.t.0), omega arith)
+    let r = rated x.samples.values.now x.samples.tolerance x.first x.run.count x.run.least c.rate_of-p.result q.fits.1 c.rate_of-p.ensures in
+    let o = offs x.samples.values.now x.samples.tolerance x.first x.run.count c.rate_of-p.result c.offset_of-a.result r c.offset_of-a.ensures in
+    (subst (λ (z : ℕ). z ≤ 2 * tilt) (sym o) (lifted-top x.samples.values.now x.samples.tolerance x.samples.small x.samples.near x.first x.run.count q.le_count.0 q.fits.0), omega arith)
 
 pub signed-requires-2 : goal.signed-requires-2
 signed-requires-2 c =
     let x = c.args in
     let q = c.requires in
-    let r = rated x.samples.now x.tolerance x.first x.count x.l c.rate_of-p.result q.t.1 c.rate_of-p.ensures in
-    (subst (λ (z : ℕ). z ≤ 2 * tilt) (sym r) (tilted-top x.samples.now x.tolerance q.small q.tolerance_bound x.first x.count q.t.0), omega arith)
+    let r = rated x.samples.values.now x.samples.tolerance x.first x.run.count x.run.least c.rate_of-p.result q.fits.1 c.rate_of-p.ensures in
+    (subst (λ (z : ℕ). z ≤ 2 * tilt) (sym r) (tilted-top x.samples.values.now x.samples.tolerance x.samples.small x.samples.near x.first x.run.count q.fits.0), omega arith)
 
 pub returns : goal.returns
 unfolding offset_of rate_of_rule
 returns c =
     let x = c.args in
     let q = c.requires in
-    let r = rated x.samples.now x.tolerance x.first x.count x.l c.rate_of-p.result q.t.1 c.rate_of-p.ensures in
-    let o = offs x.samples.now x.tolerance x.first x.count c.rate_of-p.result c.offset_of-a.result r c.offset_of-a.ensures in (
+    let r = rated x.samples.values.now x.samples.tolerance x.first x.run.count x.run.least c.rate_of-p.result q.fits.1 c.rate_of-p.ensures in
+    let o = offs x.samples.values.now x.samples.tolerance x.first x.run.count c.rate_of-p.result c.offset_of-a.result r c.offset_of-a.ensures in (
       back_sub c.signed.result (lifted _ _ _ _) lift (c.signed.ensures ∙ ap (λ (z : ℕ). sub_ℕ z lift) o)
-          (lifted-top x.samples.now x.tolerance q.small q.tolerance_bound x.first x.count q.le_count.0 q.t.0) (omega arith),
+          (lifted-top x.samples.values.now x.samples.tolerance x.samples.small x.samples.near x.first x.run.count q.le_count.0 q.fits.0) (omega arith),
       back_sub c.signed-2.result (tilted _ _ _ _) tilt (c.signed-2.ensures ∙ ap (λ (z : ℕ). sub_ℕ z tilt) r)
-          (tilted-top x.samples.now x.tolerance q.small q.tolerance_bound x.first x.count q.t.0) (omega arith),
+          (tilted-top x.samples.values.now x.samples.tolerance x.samples.small x.samples.near x.first x.run.count q.fits.0) (omega arith),
     )

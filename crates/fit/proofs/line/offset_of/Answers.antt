@@ -1,4 +1,4 @@
--- `fit::offset_of` meets its contract.
+-- `offset_of` meets its contract.
 use Rattle.std.proofs.Common.{◌+◌, ◌*◌, ◌<◌, ◌≤◌, List, ℕ, ℤ, refl, arith}
 use Rattle.fit.specs.Line.{Small}
 use Rattle.fit.specs.Rates.{scaled, tilt, lo, hi, off}
@@ -15,33 +15,31 @@ line-bound s t f n p j h k l u i =
 
 pub loop-j-init : goal.loop-j-init
 unfolding off
-loop-j-init c = (omega arith, refl)
+loop-j-init c = refl
 
 pub overflow_add-u : goal.overflow_add-u
 overflow_add-u c =
-    let b = bound c.args.samples.now c.args.tolerance c.requires.small c.requires.tolerance_bound.0 (c.args.first + c.loop-j.j) in
-    record { fits = omega (arith, b, c.scaled_at-b.ensures, c.requires.tolerance_bound) }
+    let b = bound c.args.samples.values.now c.args.samples.tolerance c.args.samples.small c.args.samples.near (c.args.first + c.loop-j.j) in
+    record { fits = omega (arith, b, c.scaled_at.ensures, c.requires.count_in_bounds.1) }
 
-pub overflow_mul-v : goal.overflow_mul-v
-overflow_mul-v c =
+pub overflow_mul-p : goal.overflow_mul-p
+overflow_mul-p c =
     let q = c.requires in
     let j = c.loop-j.j in
-    let b = bound c.args.samples.now c.args.tolerance q.small q.tolerance_bound.0 (c.args.first + j) in
-    let e = line-bound c.args.samples.now c.args.tolerance c.args.first c.args.count c.args.p j q.small q.tolerance_bound.0 q.count_bound.0 q.count_bound.1 c.loop-j-test.true in
-    record { fits = omega (arith, b, e, q.tolerance_bound) }
+    let b = bound c.args.samples.values.now c.args.samples.tolerance c.args.samples.small c.args.samples.near (c.args.first + j) in
+    let e = line-bound c.args.samples.values.now c.args.samples.tolerance c.args.first c.args.count c.args.p j c.args.samples.small c.args.samples.near q.count_bound.0 q.count_bound.1 c.loop-j-test.true in
+    record { fits = omega (arith, b, e, q.count_in_bounds.1) }
 
-pub overflow_add-v : goal.overflow_add-v
-overflow_add-v c =
+pub overflow_add-w : goal.overflow_add-w
+overflow_add-w c =
     let q = c.requires in
     let j = c.loop-j.j in
-    let b = bound c.args.samples.now c.args.tolerance q.small q.tolerance_bound.0 (c.args.first + j) in
-    let e = line-bound c.args.samples.now c.args.tolerance c.args.first c.args.count c.args.p j q.small q.tolerance_bound.0 q.count_bound.0 q.count_bound.1 c.loop-j-test.true in
-    record { fits = omega (arith, b, e, q.tolerance_bound) }
+    let b = bound c.args.samples.values.now c.args.samples.tolerance c.args.samples.small c.args.samples.near (c.args.first + j) in
+    let e = line-bound c.args.samples.values.now c.args.samples.tolerance c.args.first c.args.count c.args.p j c.args.samples.small c.args.samples.near q.count_bound.0 q.count_bound.1 c.loop-j-test.true in
+    record { fits = omega (arith, b, e, q.count_in_bounds.1) }
 
 pub loop-j-preserved : goal.loop-j-preserved
 loop-j-preserved c =
     let x = c.args in
-    let k = c.loop-j in (
-      omega arith,
-      off-step (scaled x.samples.now) (65536 * x.tolerance) tilt x.p x.first k.j _ _ c.above.result _ k.invariant.1 c.scaled_at-b.ensures (omega (arith, c.above.ensures)) c.larger-a.ensures,
-    )
+    let k = c.loop-j in
+    off-step (scaled x.samples.values.now) (65536 * x.samples.tolerance) tilt x.p x.first k.j _ _ _ _ k.invariant c.scaled_at.ensures (omega (arith, c.saturating_sub.ensures)) c.max-a.ensures

@@ -1,14 +1,9 @@
-use Rattle.std.proofs.Common.{◌≡◌, ◌*◌, ◌-◌, ◌/◌, ◌≤◌, length, drop}
+use Rattle.std.proofs.Common.{◌≡◌, ◌*◌, ◌≤◌, drop}
 use Rattle.predict.specs.Lent.{lent_of, sound_from}
 use Rattle.predict.proofs.lent.sound.Given as goal
 
 abbrev pub invariant-loop-i : goal.invariant-loop-i
 invariant-loop-i l = record {
-  all : l.m ≡ length l.track / 4;
-  segments : l.i ≤ l.m;
   samples : l.at ≤ 4096;
   left : sound_from 0 (lent_of l.track) ≡ sound_from l.at (lent_of (drop (4 * l.i) l.track));
 }
-
-abbrev pub decreases-loop-i : goal.decreases-loop-i
-decreases-loop-i l = l.m - l.i

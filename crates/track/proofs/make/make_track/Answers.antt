@@ -1,23 +1,34 @@
-use Rattle.std.proofs.Common.{◌≡◌, sym, ap, ◌∙◌, ℕ, ◌*◌, ◌++◌, length, drop, arith, w64, pos, to_z}
+use Rattle.std.proofs.Common.{◌≡◌, sym, ap, ◌∙◌, List, ℕ, ℤ, ◌*◌, ◌≤◌, ◌++◌, length, drop, arith, w64, pos, to_z}
+use lib.IntN.{nat_abs}
 use mir.ValLaws.{to_z_pos}
+use Rattle.std.proofs.lemmas.List.{length-take-le}
 use Rattle.whole.specs.Whole.{pos_part}
+use Rattle.whole.specs.declared.Number.{Number}
 use Rattle.whole.proofs.Linear.{back}
+use Rattle.fit.specs.declared.run.Run.{Run}
 use Rattle.track.specs.Segments.{flat}
 use Rattle.track.specs.Made.{track_of}
-use Rattle.track.proofs.Ranged.{ranged, handed_on}
+use Rattle.track.proofs.Ranged.{Ranged, ranged, handed_on}
 use Rattle.track.proofs.Answers.{answer_8, answer_0}
 use Rattle.track.proofs.Theorems.{track_of_half}
 use Rattle.track.proofs.make.make_track.Goals as goal
 
-pub overflow_cast-t : goal.overflow_cast-t
-overflow_cast-t c = (handed_on _ _ (back c.ranges.tolerance) (ranged c.args.samples.now c.args.tolerance c.requires)).cast
+-- there is a place for each run
+noted : (s : List ℤ) (t z : ℤ) (m : ℕ) (runs : List Run) → z ≡ t → Ranged s t → m ≡ length (track_of s (nat_abs z)) → length runs ≡ 2048 → m ≤ length runs
+noted s t z m runs e g many long =
+    let h = handed_on t z e g in
+    omega (arith, many ∙ ap (λ (n : ℕ). length (track_of s n)) h.same, track_of_half s (pos_part t) g.small g.tol, g.few)
 
-pub count_segments-m-requires-clause-small : goal.count_segments-m-requires-clause-small
-count_segments-m-requires-clause-small c = let g = ranged c.args.samples.now c.args.tolerance c.requires in (g.small, g.few)
+pub overflow_cast-samples : goal.overflow_cast-samples
+overflow_cast-samples c = (handed_on _ _ (back c.ranges.tolerance) (ranged c.args.samples.now c.args.tolerance c.requires)).cast
 
-pub count_segments-m-requires-clause-tolerance_bound : goal.count_segments-m-requires-clause-tolerance_bound
-count_segments-m-requires-clause-tolerance_bound c =
-    (handed_on _ _ (back c.ranges.tolerance) (ranged c.args.samples.now c.args.tolerance c.requires)).most
+pub invariant_of-samples : goal.invariant_of-samples
+invariant_of-samples c =
+    let g = ranged c.args.samples.now c.args.tolerance c.requires in
+    record { small = g.small; near = (handed_on _ _ (back c.ranges.tolerance) g).most }
+
+pub count_segments-m-requires : goal.count_segments-m-requires
+count_segments-m-requires c = (ranged c.args.samples.now c.args.tolerance c.requires).few
 
 -- The room is too short: 8,
 -- and it stays as it was.
@@ -27,23 +38,22 @@ returns-then-room-m c =
     let t = c.args.tolerance in
     let h = handed_on _ _ (back c.ranges.tolerance) (ranged s t c.requires) in
     let many = c.count_segments-m.ensures.0 ∙ ap (λ (n : ℕ). length (track_of s n)) h.same in
-    sym (answer_8 s t c.args.room.now c.requires (omega (arith, c.if-room-m.true, many)))
+    ap (λ (n : Number). record { answer = n; room = c.args.room.now }) c.from.ensures
+    ∙ sym (answer_8 s t c.args.room.now c.requires (omega (arith, c.if-room-m.true, many)))
 
-pub write_segments-requires-clause-small : goal.write_segments-requires-clause-small
-write_segments-requires-clause-small c = let g = ranged c.args.samples.now c.args.tolerance c.requires in (g.small, g.few)
+pub slice_bounds-runs-end : goal.slice_bounds-runs-end
+slice_bounds-runs-end c =
+    noted c.args.samples.now c.args.tolerance _ _ _ (back c.ranges.tolerance) (ranged c.args.samples.now c.args.tolerance c.requires) c.count_segments-m.ensures.0 c.count_segments-m.array_long
 
-pub write_segments-requires-clause-tolerance_bound : goal.write_segments-requires-clause-tolerance_bound
-write_segments-requires-clause-tolerance_bound c =
-    (handed_on _ _ (back c.ranges.tolerance) (ranged c.args.samples.now c.args.tolerance c.requires)).most
+pub slice_bounds-write_segments-end : goal.slice_bounds-write_segments-end
+slice_bounds-write_segments-end c =
+    let l = noted c.args.samples.now c.args.tolerance _ _ _ (back c.ranges.tolerance) (ranged c.args.samples.now c.args.tolerance c.requires) c.count_segments-m.ensures.0 c.count_segments-m.array_long in
+    sym (length-take-le _ _ l)
 
-pub overflow_cast-result : goal.overflow_cast-result
-overflow_cast-result c =
-    let s = c.args.samples.now in
-    let t = c.args.tolerance in
-    let g = ranged s t c.requires in
-    let h = handed_on _ _ (back c.ranges.tolerance) g in
-    let many = c.count_segments-m.ensures.0 ∙ ap (λ (n : ℕ). length (track_of s n)) h.same in
-    record { sfits = omega (arith, many, track_of_half s (pos_part t) g.small g.tol, g.few) }
+pub write_segments-requires-clause-all : goal.write_segments-requires-clause-all
+write_segments-requires-clause-all c =
+    let l = noted c.args.samples.now c.args.tolerance _ _ _ (back c.ranges.tolerance) (ranged c.args.samples.now c.args.tolerance c.requires) c.count_segments-m.ensures.0 c.count_segments-m.array_long in
+    length-take-le _ _ l ∙ c.count_segments-m.ensures.0
 
 pub returns : goal.returns
 returns c =
@@ -57,5 +67,6 @@ returns c =
     c.write_segments.ensures ∙ ap (λ (n : ℕ). flat (track_of s n) ++ drop (4 * length (track_of s n)) c.args.room.now) h.same in
     let v : to_z w64 c.count_segments-m.result ≡ pos (length xs) =
     ap (λ (n : ℕ). to_z w64 n) many ∙ to_z_pos w64 (length xs) (omega (arith, track_of_half s (pos_part t) g.small g.tol, g.few)) in
-    (λ i. record { answer = record { refusal = pos 0; value = v i }; room = r i })
+    ap (λ (n : Number). record { answer = n; room = c.write_segments.new.room }) c.from-2.ensures
+    ∙ (λ i. record { answer = record { refusal = pos 0; value = v i }; room = r i })
     ∙ sym (answer_0 s t c.args.room.now c.requires (omega (arith, c.if-room-m.false, many)))
