@@ -1,5 +1,5 @@
 -- What it gives that an accepted file covers a day, or two days. Assumes nothing.
-use mathlib.Core.Path.{◌≡◌, refl, sym, ap, subst, ◌∙◌}
+use mathlib.Core.Path.{◌≡◌, sym, ap, ap₂, subst, ◌∙◌}
 use mathlib.Core.Bool.{Bool, true, ◌&&◌}
 use mathlib.Core.List.{List}
 use Prim.Native.Nat.{ℕ, ◌+◌, ◌-◌, ◌≤◌, ◌<◌}
@@ -23,16 +23,18 @@ use Rattle.sections.specs.Layouts.{places}
 use Rattle.sections.specs.File.{refusal_of_rule, count_of_rule, field_at_rule}
 use Rattle.whole.proofs.Each.{below_each, below_all}
 use Rattle.whole.proofs.Tests.{and_yes, same_test}
+use Rattle.fields.specs.declared.Day.{Day}
 use Rattle.fields.specs.declared.Pass.{Pass}
 use Rattle.session.specs.Records.{place_by_rule, day_by}
 use Rattle.session.proofs.Laws.{place_has, day-plus, day-place}
-use Rattle.wave.specs.Bounds.{InRecord, InEarth}
+use Rattle.wave.specs.Bounds.{InRecord}
+use Rattle.wave.specs.Values.{InEarth}
+use Rattle.wave.specs.Keeping.{reduced_of}
 use Rattle.wave.specs.DayValues.{earth_of}
 use Rattle.wave.proofs.DayLaws.{earth_size}
 use Rattle.wave.proofs.Marks.{earth_reduced}
 use Rattle.delay.specs.declared.records.Days.{Days}
 use Rattle.delay.specs.Calls.{samples_of, all_covered_rule}
-use Rattle.delay.specs.Keeping.{days_from_rule}
 use Rattle.delay.specs.Sessions.{has_id, covers, earth_in_rule, sample_epoch_rule}
 use Rattle.delay.proofs.Accepted.{day_by_in, has_day_in}
 use Rattle.delay.proofs.Epochs.{samples-count, sample-days, first-day}
@@ -51,23 +53,38 @@ module _ (s : List ℕ) (d : ℤ) (accepted : refusal_of_rule s ≡ 0) (c : cove
   pub day_back : to_z w64 (of_z w64 d) ≡ d
   day_back = is (leaf d day_in_lem) tt
 
--- the records of an epoch's day and of the next, once they were read
-module _ (s : List ℕ) (e : Epoch) (accepted : refusal_of_rule s ≡ 0) (c : covers s e.day ≡ true) (d : Days) (are : d ≡ days_from_rule s e.day) where
+  -- the records of the day and of the next, with UT1R
+  pub today_record : InRecord (reduced_of (day_by s d))
+  today_record = day_by_in s accepted d both_there.0
+
+  pub next_record : InRecord (reduced_of (day_by s (d +ℤ pos 1)))
+  next_record = day_by_in s accepted (d +ℤ pos 1) both_there.1
+
+-- the same, once they were read
+module _ (s : List ℕ) (e : Epoch) (accepted : refusal_of_rule s ≡ 0) (c : covers s e.day ≡ true) (d : Days) (file_is : d.session.file.now ≡ s) (day_is : d.day ≡ to_z w64 (of_z w64 e.day)) where
+  today-is : d.today ≡ reduced_of (day_by s e.day)
+  today-is = d.today_is ∙ ap₂ (λ (f : List ℕ) (x : ℤ). reduced_of (day_by f x)) file_is (day_is ∙ day_back s e.day accepted c)
+
+  next-is : d.next ≡ reduced_of (day_by s (e.day +ℤ pos 1))
+  next-is = d.next_is ∙ ap₂ (λ (f : List ℕ) (x : ℤ). reduced_of (day_by f (x +ℤ pos 1))) file_is (day_is ∙ day_back s e.day accepted c)
+
   pub today_in : InRecord d.today
-  today_in = subst (λ (x : Days). InRecord x.today) (sym are) (day_by_in s accepted e.day (both_there s e.day accepted c).0)
+  today_in = rw today-is (today_record s e.day accepted c)
 
   pub next_in : InRecord d.next
-  next_in = subst (λ (x : Days). InRecord x.next) (sym are) (day_by_in s accepted (e.day +ℤ pos 1) (both_there s e.day accepted c).1)
+  next_in = rw next-is (next_record s e.day accepted c)
 
   pub earth_by : earth_of d.today d.next e ≡ earth_in_rule s e
   unfolding earth_in_rule
-  earth_by = ap (λ (x : Days). earth_of x.today x.next e) are ∙ earth_reduced (day_by s e.day) (day_by s (e.day +ℤ pos 1)) e
+  earth_by = ap₂ (λ (x y : Day). earth_of x y e) today-is next-is ∙ earth_reduced (day_by s e.day) (day_by s (e.day +ℤ pos 1)) e
 
 -- the earth at an epoch that is covered
 pub earth_in_size : (s : List ℕ) (e : Epoch) → refusal_of_rule s ≡ 0 → covers s e.day ≡ true → Holds millisecond e.ms → InEarth (earth_in_rule s e)
+unfolding earth_in_rule
 earth_in_size s e h c m =
-    let d = days_from_rule s e.day in
-    subst InEarth (earth_by s e h c d refl) (earth_size d.today d.next e (today_in s e h c d refl) (next_in s e h c d refl) m)
+    let today = today_record s e.day h c in
+    let next = next_record s e.day h c in
+    subst InEarth (earth_reduced (day_by s e.day) (day_by s (e.day +ℤ pos 1)) e) (earth_size (reduced_of (day_by s e.day)) (reduced_of (day_by s (e.day +ℤ pos 1))) e today next m)
 
 -- ---- the file's days follow one another: between two that are covered each day is
 module _ (s : List ℕ) (accepted : refusal_of_rule s ≡ 0) where

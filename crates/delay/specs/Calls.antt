@@ -1,9 +1,10 @@
 -- The three public calls: what each returns and leaves in the room lent, for every input. Document 01, 'Refusal numbers'.
-use Rattle.std.specs.Prelude.{ℕ, Bool, ◌&&◌, List, [], ◌∷◌, ◌++◌, length, drop, ℤ, pos, nat_abs, leb, ltb}
+use Rattle.std.specs.Prelude.{ℕ, Bool, ◌&&◌, List, [], ◌∷◌, ◌++◌, length, drop, ℤ, pos, nat_abs, leb, ltb, Result, Ok, Err}
 use Rattle.earth.specs.declared.time.Epoch.{Epoch}
 use Rattle.whole.specs.declared.Number.{Number}
 use Rattle.whole.specs.Answers.{given, answer_by}
-use Rattle.whole.specs.Refusals.{unless, lowest}
+use Rattle.whole.specs.declared.refusal.Refusal.{Refusal}
+use Rattle.whole.specs.Refusals.{unless, lowest, number_of}
 use Rattle.whole.specs.Values.{first_values}
 use Rattle.fields.specs.Ranges.{inside, id_number, mjd, millisecond}
 use Rattle.earth.specs.Calls.{epoch_of}
@@ -29,6 +30,11 @@ earth_answer e = record { refusal = pos 0; x = e.x; y = e.y; ut1_used = e.ut1_us
 
 abbrev pub no_earth_rule : ℕ → EarthAnswer
 no_earth_rule n = record { refusal = pos n; x = pos 0; y = pos 0; ut1_used = pos 0; tick = 0 }
+
+-- what is answered for a result
+abbrev pub earth_answer_in : Result Earth Refusal → EarthAnswer
+earth_answer_in (Ok e) = earth_answer e
+earth_answer_in (Err r) = no_earth_rule (number_of r)
 
 unfoldable pub orientation_outcome : List ℕ → ℤ → ℤ → EarthAnswer
 orientation_outcome s day ms = given (orientation_number s day ms) (earth_answer (earth_in_rule s (epoch_of day ms))) no_earth_rule

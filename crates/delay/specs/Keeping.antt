@@ -1,16 +1,14 @@
 -- What the code looks up, and keeps from one sample to the next: where records stand, those of a day and the next, and the tide of a minute of TT.
-use Rattle.std.specs.Prelude.{◌≡◌, Bool, ◌&&◌, List, [], ◌∷◌, ◌++◌, ℕ, leb, ltb, ℤ, pos, ◌+ℤ◌, drop}
+use Rattle.std.specs.Prelude.{Bool, ◌&&◌, List, [], ◌∷◌, ◌++◌, ℕ, leb, ltb, ℤ, drop}
 use Rattle.whole.specs.Answers.{given}
 use Rattle.whole.specs.Values.{first_values}
 use Rattle.whole.specs.Refusals.{unless, first_of}
 use Rattle.fields.specs.declared.Pass.{Pass}
 use Rattle.earth.specs.declared.time.Epoch.{Epoch}
 use Rattle.sections.specs.File.{count_of_rule}
-use Rattle.session.specs.Records.{station_of_rule, source_of, day_by, place_by_rule}
+use Rattle.session.specs.Records.{station_of_rule, source_of, place_by_rule}
 use Rattle.wave.specs.declared.Sight.{Sight}
-use Rattle.wave.specs.Keeping.{TrueMinute, reduced_of, sight_of, delay_seen_rule}
-use Rattle.delay.specs.declared.keep.Kept.{Kept}
-use Rattle.delay.specs.declared.records.Days.{Days}
+use Rattle.wave.specs.Keeping.{sight_of, delay_seen_rule}
 use Rattle.delay.specs.declared.records.Places.{Places}
 use Rattle.delay.specs.Calls.{samples_of, all_covered_rule, sample_in}
 use Rattle.delay.specs.Sessions.{earth_in_rule}
@@ -39,15 +37,6 @@ room_by_rule s p room n = given n (first_values (samples_of p) (sample_in s p) +
 -- the sight from the two stations to the source
 abbrev pub sight_in_rule : List ℕ → Places → Sight
 sight_in_rule s n = sight_of (station_of_rule s n.first) (station_of_rule s n.second) (source_of s n.source)
-
--- the records of day d and of the next, with UT1R
-abbrev pub days_from_rule : List ℕ → ℤ → Days
-days_from_rule s d = record { day = d; today = reduced_of (day_by s d); next = reduced_of (day_by s (d +ℤ pos 1)) }
-
--- what is kept are the records of its day and of the next, and the tide of its minute
-pub record TrueKept (s : List ℕ) (k : Kept) : Type 0 where
-  pub days_are : k.days ≡ days_from_rule s k.days.day
-  pub minute_is : TrueMinute k.minute
 
 -- the delay along a sight at an epoch of the file
 unfoldable pub delay_at_rule : List ℕ → Sight → Epoch → ℤ

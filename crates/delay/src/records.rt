@@ -1,21 +1,23 @@
 // What the delays take from an accepted file: the records that three ids name, those of a day and of the next, and the earth at an epoch.
-ghost use Rattle.std.specs.Prelude.{◌≡◌, true, ◌&&◌, ◌<◌, ◌≤◌, ltb};
+// That the file covers a day is asked by a clause: a day that had a file of its own beside it would have to be shown to have the file of what is kept.
+ghost use Rattle.std.specs.Prelude.{◌≡◌, true, ◌<◌, ◌≤◌, ltb, pos, ◌+ℤ◌, IfOk};
 ghost use Rattle.whole.specs.Whole.{∣◌∣};
-ghost use Rattle.fields.specs.Ranges.{Holds, millisecond};
-ghost use Rattle.sections.specs.File.{refusal_of_rule, count_of_rule};
+ghost use Rattle.whole.specs.Refusals.{number_in, unless};
+ghost use Rattle.sections.specs.File.{count_of_rule};
 ghost use Rattle.session.specs.Records.{day_by};
-ghost use Rattle.wave.specs.Bounds.{InEarth, InSight};
 ghost use Rattle.wave.specs.Keeping.{reduced_of};
-ghost use Rattle.delay.specs.Keeping.{days_from_rule, places_by, places_there, sight_in_rule};
+ghost use Rattle.delay.specs.Calls.{all_there_rule};
+ghost use Rattle.delay.specs.Keeping.{places_by, places_there, sight_in_rule};
 ghost use Rattle.delay.specs.Sessions.{covers, earth_in_rule, has_id};
 
 use earth::Epoch;
 use earth::rows::tide_at_minute;
 use fields::Day;
-use sections::refusal::count_of;
+use sections::Session;
 use session::records::{day_of, day_place, place_by, source_of, station_of};
 use wave::values::{Earth, earth_at, minutes_by, reduced};
 use wave::{Sight, sight_of};
+use whole::Refusal;
 
 // Where the records of two stations and of a source stand, each in its section.
 #[derive(Clone, Copy)]
@@ -25,55 +27,56 @@ pub struct Places {
     pub source: usize,
 }
 
-// The records of a day and of the next, both with UT1R.
+// The records of a day of the file and of the next, both with UT1R.
 #[derive(Clone, Copy)]
-pub struct Days {
+pub struct Days<'a> {
+    pub session: Session<'a>,
     pub day: i64,
     pub today: Day,
     pub next: Day,
-}
-
-// Whether both hold, as one value: who joins two answers has no branch for it.
-pub fn both(a: bool, b: bool) -> bool
-    ensures { result ≡ (a && b) }
-{
-    a && b
+    pub ghost today_is: { today ≡ reduced_of (day_by session.file.now day) },
+    pub ghost next_is: { next ≡ reduced_of (day_by session.file.now (day +ℤ pos 1)) },
 }
 
 // Whether place p has a record i.
-fn there(s: &[u8], p: usize, i: usize) -> bool
-    requires { (refusal_of_rule s.now ≡ 0) × (p < 4) }
-    ensures { result ≡ ltb i (count_of_rule s.now p) }
+fn there(s: Session<'_>, p: usize, i: usize) -> bool
+    requires { p < 4 }
+    ensures { result ≡ ltb i (count_of_rule s.entry.file.now p) }
 {
-    i < count_of(s, p)
+    i < s.count(p)
 }
 
-// Where the records of two stations and of a source stand, by their ids.
-pub fn named_by(s: &[u8], station1: i64, station2: i64, source: i64) -> Places
-    requires { refusal_of_rule s.now ≡ 0 }
-    ensures { result ≡ places_by s.now station1 station2 source }
+fn all_there(s: Session<'_>, n: Places) -> bool
+    ensures { result ≡ places_there s.entry.file.now n }
 {
-    Places {
+    there(s, 0, n.first) && there(s, 0, n.second) && there(s, 1, n.source)
+}
+
+// Where the records of two stations and of a source stand, by their ids; refused where one of them is not there.
+pub fn named_by(
+    s: Session<'_>,
+    station1: i64,
+    station2: i64,
+    source: i64,
+) -> Result<Places, Refusal>
+    ensures number { number_in result ≡ unless (all_there_rule s.entry.file.now station1 station2 source) 5 }
+    ensures places { IfOk result (λ n. n ≡ places_by s.entry.file.now station1 station2 source) }
+{
+    let n = Places {
         first: place_by(s, 0, station1),
         second: place_by(s, 0, station2),
         source: place_by(s, 1, source),
+    };
+    if !all_there(s, n) {
+        return Err(Refusal::Absent);
     }
-}
-
-pub fn all_there(s: &[u8], n: Places) -> bool
-    requires { refusal_of_rule s.now ≡ 0 }
-    ensures { result ≡ places_there s.now n }
-{
-    both(
-        there(s, 0, n.first),
-        both(there(s, 0, n.second), there(s, 1, n.source)),
-    )
+    Ok(n)
 }
 
 // The sight from the two stations to the source.
-pub fn sight_in(s: &[u8], n: Places) -> Sight
-    requires { (refusal_of_rule s.now ≡ 0) × (places_there s.now n ≡ true) }
-    ensures { (result ≡ sight_in_rule s.now n) × InSight result }
+pub fn sight_in(s: Session<'_>, n: Places) -> Sight
+    requires { places_there s.file.now n ≡ true }
+    ensures { result ≡ sight_in_rule s.entry.file.now n }
 {
     let a = station_of(s, n.first);
     let b = station_of(s, n.second);
@@ -81,55 +84,83 @@ pub fn sight_in(s: &[u8], n: Places) -> Sight
     sight_of(a, b, r)
 }
 
-fn has_day(s: &[u8], day: i64) -> bool
-    requires { refusal_of_rule s.now ≡ 0 }
-    ensures { result ≡ has_id s.now 2 day }
+fn has_day(s: Session<'_>, day: i64) -> bool
+    ensures { result ≡ has_id s.entry.file.now 2 day }
 {
     there(s, 2, day_place(s, day))
 }
 
 // Whether the file has the records of a day and of the next.
-pub fn covers(s: &[u8], day: i64) -> bool
-    requires { (refusal_of_rule s.now ≡ 0) × (∣ day ∣ ≤ 1_000_000) }
-    ensures { result ≡ covers s.now day }
+pub fn covers(s: Session<'_>, day: i64) -> bool
+    requires { ∣ day ∣ ≤ 1_000_000 }
+    ensures { result ≡ covers s.entry.file.now day }
 {
-    both(has_day(s, day), has_day(s, day + 1))
+    has_day(s, day) && has_day(s, day + 1)
 }
 
 // The record of a day that the file has, with UT1R.
-pub fn day_in(s: &[u8], day: i64) -> Day
-    requires { (refusal_of_rule s.now ≡ 0) × (has_id s.now 2 day ≡ true) }
-    ensures { result ≡ reduced_of (day_by s.now day) }
+pub fn day_in(s: Session<'_>, day: i64) -> Day
+    requires { has_id s.file.now 2 day ≡ true }
+    ensures { result ≡ reduced_of (day_by s.entry.file.now day) }
 {
     reduced(day_of(s, day_place(s, day)))
 }
 
-// The records of a day that the file covers, of which that of the day itself is there already, and of the next.
-pub fn days_with(s: &[u8], day: i64, today: Day) -> Days
-    requires { (refusal_of_rule s.now ≡ 0) × (covers s.now day ≡ true) × (today ≡ reduced_of (day_by s.now day)) }
-    ensures { result ≡ days_from_rule s.now day }
-{
-    Days {
-        day: day,
-        today: today,
-        next: day_in(s, day + 1),
+impl<'a> Days<'a> {
+    // Those of a day that the file covers, of which that of the day itself is there already.
+    fn with(session: Session<'a>, day: i64, today: Day) -> Days<'a>
+        requires { (covers session.file.now day ≡ true) × (today ≡ reduced_of (day_by session.file.now day)) }
+        ensures { (result.session.file.now ≡ session.entry.file.now) × (result.day ≡ day) }
+    {
+        Days {
+            session,
+            day,
+            today,
+            next: day_in(session, day + 1),
+        }
+    }
+
+    // Those of a day that the file covers.
+    pub fn from(session: Session<'a>, day: i64) -> Days<'a>
+        requires { covers session.file.now day ≡ true }
+        ensures { (result.session.file.now ≡ session.entry.file.now) × (result.day ≡ day) }
+    {
+        Days::with(session, day, day_in(session, day))
+    }
+
+    // The record of this day: where it is that of the next day here, it is taken over.
+    fn today_at(self, day: i64) -> Day
+        requires { covers self.session.file.now day ≡ true }
+        ensures { result ≡ reduced_of (day_by self.entry.session.file.now day) }
+    {
+        if self.day == day - 1 {
+            return self.next;
+        }
+        day_in(self.session, day)
+    }
+
+    // Those of this day: where it is another, the next is read anew.
+    pub fn at(self, day: i64) -> Days<'a>
+        requires { covers self.session.file.now day ≡ true }
+        ensures { (result.session.file.now ≡ self.entry.session.file.now) × (result.day ≡ day) }
+    {
+        if self.day == day {
+            return self;
+        }
+        Days::with(self.session, day, self.today_at(day))
     }
 }
 
-// The records of a day that the file covers, and of the next.
-pub fn days_from(s: &[u8], day: i64) -> Days
-    requires { (refusal_of_rule s.now ≡ 0) × (covers s.now day ≡ true) }
-    ensures { result ≡ days_from_rule s.now day }
+// The earth at an epoch; refused where the file does not cover its day.
+pub fn earth_in(s: Session<'_>, e: Epoch) -> Result<Earth, Refusal>
+    requires { ∣ e.day ∣ ≤ 1_000_000 }
+    ensures number { number_in result ≡ unless (covers s.entry.file.now e.day) 6 }
+    ensures earth { IfOk result (λ r. r ≡ earth_in_rule s.entry.file.now e) }
 {
-    days_with(s, day, day_in(s, day))
-}
-
-// The earth at an epoch that the file covers.
-pub fn earth_in(s: &[u8], e: Epoch) -> Earth
-    requires { (refusal_of_rule s.now ≡ 0) × (covers s.now e.day ≡ true) × Holds millisecond e.ms }
-    ensures { (result ≡ earth_in_rule s.now e) × InEarth result }
-{
-    let d = days_from(s, e.day);
+    if !covers(s, e.day) {
+        return Err(Refusal::Uncovered);
+    }
+    let d = Days::from(s, e.day);
     let tide = tide_at_minute(minutes_by(d.today, e));
-    earth_at(d.today, d.next, e, tide)
+    Ok(earth_at(d.today, d.next, e, tide))
 }

@@ -1,6 +1,6 @@
 -- A pass of a file that is accepted: what its track call answers by the room, and how many segments it takes at most. Assumes nothing.
-use mathlib.Core.Path.{◌≡◌, refl, sym, ap, ◌∙◌}
-use mathlib.Core.Bool.{Bool, true}
+use mathlib.Core.Path.{◌≡◌, refl, sym, ap, ap₂, ◌∙◌}
+use mathlib.Core.Bool.{Bool, true, false}
 use mathlib.Core.List.{List, [], ◌∷◌}
 use mathlib.Core.Logic.{⊎_elim}
 use Prim.Native.Nat.{ℕ, ◌/◌, ◌≤◌, ◌<◌}
@@ -36,8 +36,9 @@ use Rattle.track.specs.Made.{track_of}
 use Rattle.track.specs.Answer.{Outcome, in_range, outcome, refused, written}
 use Rattle.track.proofs.Answers.{answer_0, answer_8, half_most}
 use Rattle.fringe.specs.PassTrack.{pass_samples_rule, pass_number, pass_outcome}
-use Rattle.fringe.specs.OfRecord.{samples_by, outcome_by}
-use Rattle.fringe.specs.Sharing.{segments_in, most_of}
+use Rattle.fringe.specs.OfRecord.{samples_by, outcome_by, TrackBy}
+use Rattle.fringe.specs.Promises.{PassTrackPromise}
+use Rattle.fringe.specs.Sharing.{segments_in, most_of, taken_by_rule, taken_of}
 use Rattle.fringe.proofs.Taken.{room_start}
 
 -- the track of pass i
@@ -94,6 +95,21 @@ in_range_lem s h p q n e =
     let small : (j : ℕ) → j < k → leb ∣ get_or (first_values k f) j (pos 0) ∣ 130_000_000_000 ≡ true =
     λ j m. rw (value_at k j f m) (le-leb ∣ f j ∣ 130_000_000_000 (record_bounded s p j h g.0 g.1 m)) in
     rw (values_long k f, le-leb 1 k c.0, le-leb k 4096 c.1, t) (below_all k _ small)
+
+-- room for 2,048 segments is always enough for it
+pub lent : (s : List ℕ) → refusal_of_rule s ≡ 0 → (p : Pass) → InPass p → (room : List ℤ) → 2048 ≤ length room / 4 → lacks_of s p 4096 ≡ 0 → (outcome_by s p room).answer.value ≡ pos (length (track_of (samples_by s p) (pos_part p.tolerance)))
+unfolding outcome_by
+lent s h p q room m e =
+    let t = in_range_lem s h p q 4096 e in
+    let k : length (track_of (samples_by s p) (pos_part p.tolerance)) ≤ length room / 4 =
+    omega (arith, m, half_most (samples_by s p) p.tolerance t, values_long (samples_of p) (sample_in s p), samples-count p q) in
+    ap (λ (o : Outcome). o.answer.value) (given_yes (lacks_of s p 4096) _ (λ n. refused n room) e ∙ answer_0 (samples_by s p) p.tolerance room t k)
+
+-- what it takes of the room, by its record and by its index
+pub taken_same : (s : List ℕ) (i : ℕ) (b : Bool) → pass_number s i ≡ 0 → taken_of s (pass_of_rule s i) b ≡ taken_by_rule s i b
+unfolding segments_in
+taken_same s i true e = refl
+taken_same s i false e = ap (λ (zs : List ℤ). length (track_of zs (pos_part (pass_of_rule s i).tolerance))) (sym (samples_are s i e))
 
 -- ---- of a file that is accepted
 
@@ -156,3 +172,9 @@ module _ (s : List ℕ) (h : refusal_of_rule s ≡ 0) (i : ℕ) (l : i < count_o
 
     pub lent-count : pass_number s i ≡ 0 → (pass_outcome s i room).answer.value ≡ pos (segments_in s i)
     lent-count e = count_is e room (always e)
+
+-- ---- a pass that was read
+
+-- what its record gives is what pass i gives
+pub by_index : (s t : List ℕ) (i : ℕ) (p : Pass) → t ≡ s → p ≡ pass_of_rule s i → refusal_of_rule s ≡ 0 → i < count_of_rule s 3 → (room after : List ℤ) (r : Number) → TrackBy t p room r after → PassTrackPromise s i room r after
+by_index s t i p f e z l room after r k = k ∙ ap₂ (λ (s : List ℕ) (p : Pass). outcome_by s p room) f e ∙ sym (by_record s z i l room)

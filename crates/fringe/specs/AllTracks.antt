@@ -1,8 +1,9 @@
 -- Document 02, L2: the tracks of all passes of a session, each behind the last, as single calls in turn give them.
-use Rattle.std.specs.Prelude.{ℕ, zero, suc, ◌*◌, ◌-◌, List, [], ◌∷◌, ◌++◌, ℤ, pos, take, drop, replicate}
+use Rattle.std.specs.Prelude.{ℕ, zero, suc, ◌*◌, ◌-◌, List, [], ◌∷◌, ◌++◌, ℤ, pos, take, drop, replicate, Result, Ok, Err}
 use Rattle.whole.specs.Whole.{pos_part, ∣◌∣}
 use Rattle.whole.specs.Answers.{given}
-use Rattle.whole.specs.Refusals.{first_of}
+use Rattle.whole.specs.declared.refusal.Refusal.{Refusal}
+use Rattle.whole.specs.Refusals.{first_of, number_of}
 use Rattle.sections.specs.File.{refusal_of_rule, count_of_rule}
 use Rattle.fringe.specs.PassTrack.{pass_outcome}
 use Rattle.fringe.specs.declared.Tracks.{Tracks}
@@ -41,6 +42,11 @@ tracks passes counts = record { refusal = pos 0; counts = counts ++ replicate (6
 
 abbrev pub no_tracks_rule : ℕ → Tracks
 no_tracks_rule n = record { refusal = pos n; counts = replicate 64 (pos 0) }
+
+-- what is answered for a result
+abbrev pub tracks_in : Result (List ℤ) Refusal → Tracks
+tracks_in (Ok counts) = record { refusal = pos 0; counts = counts }
+tracks_in (Err r) = no_tracks_rule (number_of r)
 
 -- refused, the call leaves the room as it was
 unfoldable pub all_outcome : List ℕ → List ℤ → AllOutcome

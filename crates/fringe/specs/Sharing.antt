@@ -7,6 +7,7 @@ use Rattle.fields.specs.declared.Pass.{Pass}
 use Rattle.session.specs.Records.{pass_of_rule}
 use Rattle.delay.specs.Calls.{samples_of}
 use Rattle.track.specs.Made.{track_of}
+use Rattle.fringe.specs.OfRecord.{samples_by}
 use Rattle.fringe.specs.PassTrack.{pass_samples_rule, pass_number}
 
 -- how many segments the track of pass i has, and how many that of a pass may have: half its samples, rounded up
@@ -24,6 +25,10 @@ most_from_rule s (suc m) i = most_of (pass_of_rule s i) + most_from_rule s m (su
 -- what pass i takes of the segments that are left, of which there may be enough for all that may come
 abbrev pub taken_by_rule : List ℕ → ℕ → Bool → ℕ
 taken_by_rule s i ample = cond ample (most_of (pass_of_rule s i)) (segments_in s i)
+
+-- the same by the record of a pass
+abbrev pub taken_of : List ℕ → Pass → Bool → ℕ
+taken_of s p ample = cond ample (most_of p) (length (track_of (samples_by s p) (pos_part p.tolerance)))
 
 -- the number of the first that is refused of m passes from pass i on, with so many segments left
 unfoldable pub number_from_rule : List ℕ → ℕ → ℕ → ℕ → ℕ

@@ -5,14 +5,20 @@
 mod single;
 mod together;
 
+ghost use Rattle.std.specs.Prelude.{◌≡◌, ltb, [], ◌∷◌, IfOk};
+ghost use Rattle.whole.specs.Refusals.{first_of, number_in, unless};
+ghost use Rattle.sections.specs.File.{refusal_of_rule, count_of_rule};
+ghost use Rattle.session.specs.Records.{pass_of_rule};
+ghost use Rattle.fringe.specs.AllTracks.{tracks_in};
 ghost use Rattle.fringe.specs.Promises.{PassTrackPromise, AllTracksPromise};
 
-use sections::refusal::{count_of, refusal_of};
+use delay::SessionPass;
+use sections::Session;
 use single::track_in;
-use together::{first_refused, no_tracks, write_tracks};
-use whole::{Number, no_number};
+use together::{first_refused, write_tracks};
+use whole::{Number, Refusal};
 
-// A refusal, and how many segments each pass has: 0 beyond the last, and for all where refused.
+// A refusal, and how many segments each pass has: 0 beyond the last, and for all where refused. C has it, so that a refusal's number stands beside the counts.
 #[repr(C)]
 #[derive(Drop)]
 pub struct Tracks {
@@ -20,18 +26,44 @@ pub struct Tracks {
     pub counts: [i64; 64],
 }
 
+impl From<Result<[i64; 64], Refusal>> for Tracks {
+    ghost from_gives = { λ r t. t ≡ tracks_in r };
+
+    fn from(answer: Result<[i64; 64], Refusal>) -> Tracks {
+        match answer {
+            Ok(counts) => Tracks { refusal: 0, counts },
+            Err(r) => Tracks {
+                refusal: r.number(),
+                counts: [0; 64],
+            },
+        }
+    }
+}
+
+// The pass with this index of a file; refused as the file is, or beyond the last pass.
+fn pass_in(file: &[u8], pass: usize) -> Result<SessionPass<'_>, Refusal>
+    ensures number { number_in result ≡ first_of (refusal_of_rule file.now ∷ unless (ltb pass (count_of_rule file.now 3)) 5 ∷ []) }
+    ensures pass { IfOk result (λ p. (p.session.file.now ≡ file.now) × (p.pass ≡ pass_of_rule file.now pass)) }
+{
+    SessionPass::find(Session::read(file)?, pass)
+}
+
 // Writes the track of a pass, counted from 0, to the start of the room, four numbers to a segment, and answers how many segments that is.
 pub fn pass_track(file: &[u8], pass: usize, room: &mut [i64]) -> Number
     ensures { PassTrackPromise file.now pass room.old result room.new }
 {
-    let n = refusal_of(file);
-    if n != 0 {
-        return no_number(n);
+    match pass_in(file, pass) {
+        Ok(p) => track_in(p, room),
+        Err(r) => Number::from(Err(r)),
     }
-    if count_of(file, 3) <= pass {
-        return no_number(5);
-    }
-    track_in(file, pass, room)
+}
+
+fn counted(file: &[u8], room: &mut [i64]) -> Result<[i64; 64], Refusal>
+    ensures { AllTracksPromise file.now room.old (tracks_in result) room.new }
+{
+    let session = Session::read(file)?;
+    first_refused(session, room.len() / 4)?;
+    Ok(write_tracks(session, room))
 }
 
 // Writes the tracks of all passes from the start of the room, each behind the last, and answers how many segments each has. Nothing is written before it is
@@ -39,18 +71,5 @@ pub fn pass_track(file: &[u8], pass: usize, room: &mut [i64]) -> Number
 pub fn all_tracks(file: &[u8], room: &mut [i64]) -> Tracks
     ensures { AllTracksPromise file.now room.old result room.new }
 {
-    let n = refusal_of(file);
-    if n != 0 {
-        return no_tracks(n);
-    }
-    let passes = count_of(file, 3);
-    let refused = first_refused(file, passes, room.len() / 4);
-    if refused != 0 {
-        return no_tracks(refused);
-    }
-    let counts = write_tracks(file, passes, room);
-    Tracks {
-        refusal: 0,
-        counts: counts,
-    }
+    counted(file, room).into()
 }

@@ -1,121 +1,84 @@
 // All passes of an accepted file: whether one of them is refused, and their tracks, each behind the last. Room is counted in segments, but where it is lent.
-ghost use Rattle.std.specs.Prelude.{◌≡◌, ◌++◌, ◌-◌, ◌<◌, ◌≤◌, pos, replicate};
-ghost use Rattle.fields.specs.Records.{InPass};
-ghost use Rattle.sections.specs.File.{refusal_of_rule, count_of_rule};
-ghost use Rattle.fringe.specs.AllTracks.{in_turn, no_tracks_rule};
-ghost use Rattle.fringe.specs.PassTrack.{pass_number};
-ghost use Rattle.fringe.specs.Sharing.{most_of, most_from_rule, number_from_rule, taken_by_rule};
+ghost use Rattle.std.specs.Prelude.{◌≡◌, ◌++◌, ◌-◌, ◌≤◌, pos, replicate, IfOk};
+ghost use Rattle.whole.specs.Refusals.{number_in};
+ghost use Rattle.sections.specs.File.{count_of_rule};
+ghost use Rattle.delay.specs.Keeping.{lacks_of};
+ghost use Rattle.fringe.specs.AllTracks.{in_turn};
+ghost use Rattle.fringe.specs.Sharing.{most_of, most_from_rule, number_from_rule, taken_of};
 
-use crate::Tracks;
 use crate::single::track_in;
-use delay::pass_lacks;
-use fields::Pass;
-use session::records::pass_of;
-use whole::sign::{number, size};
-
-// The answer where all is refused with n.
-pub fn no_tracks(n: usize) -> Tracks
-    requires { n < 65536 }
-    ensures { result ≡ no_tracks_rule n }
-{
-    Tracks {
-        refusal: number(n),
-        counts: [0; 64],
-    }
-}
+use delay::SessionPass;
+use sections::Session;
+use whole::Refusal;
+use whole::sign::size;
 
 // ---- whether a pass is refused
 
 // How many segments the track of a pass has at most.
-fn most_segments(p: Pass) -> usize
-    requires { InPass p }
-    ensures { (result ≡ most_of p) × (result ≤ 2048) }
+fn most_segments(p: SessionPass<'_>) -> usize
+    ensures { (result ≡ most_of p.entry.pass) × (result ≤ 2048) }
 {
-    (p.samples as usize + 1) / 2
+    (p.pass.samples as usize + 1) / 2
 }
 
 // How many the tracks of all passes have at most.
-fn most_in_all(file: &[u8], passes: usize) -> usize
-    requires { (refusal_of_rule file.now ≡ 0) × (passes ≡ count_of_rule file.now 3) }
-    ensures { result ≡ most_from_rule file.now passes 0 }
+fn most_in_all(session: Session<'_>) -> usize
+    ensures { result ≡ most_from_rule session.entry.file.now (count_of_rule session.entry.file.now 3) 0 }
 {
-    let mut most: usize = 0;
-    let mut i: usize = 0;
-    while i < passes {
-        most += most_segments(pass_of(file, i));
-        i += 1;
+    let mut most = 0;
+    for i in 0..session.count(3) {
+        most += most_segments(SessionPass::at(session, i));
     }
     most
 }
 
-// What the file lacks for a pass, and how many segments the pass takes of the room that is left.
-#[derive(Drop)]
-struct Taken {
-    lacking: usize,
-    segments: usize,
-}
-
-// Where the room left is ample, a pass takes as many segments as its track may have, and its samples are not worked out. Else it takes those that its track has.
-fn taken_by(file: &[u8], i: usize, ample: bool) -> Taken
-    requires { (refusal_of_rule file.now ≡ 0) × (i < count_of_rule file.now 3) }
-    ensures { (result.lacking ≡ pass_number file.now i) × (result.lacking ≤ 7) × (result.lacking ≡ 0 → result.segments ≡ taken_by_rule file.now i ample) }
+// How many segments a pass takes of the room that is left; refused where the file lacks something for it. Where the room left is ample, a pass takes as many
+// segments as its track may have, and its samples are not worked out. Else it takes those that its track has.
+fn taken_by(p: SessionPass<'_>, ample: bool) -> Result<usize, Refusal>
+    ensures number { number_in result ≡ lacks_of p.entry.session.file.now p.entry.pass 4096 }
+    ensures segments { IfOk result (λ m. m ≡ taken_of p.entry.session.file.now p.entry.pass ample) }
 {
+    p.places(4096)?;
     if ample {
-        let p = pass_of(file, i);
-        return Taken {
-            lacking: pass_lacks(file, p, 4096),
-            segments: most_segments(p),
-        };
+        return Ok(most_segments(p));
     }
-    let mut room = [0i64; 8192];
-    let r = track_in(file, i, &mut room);
-    Taken {
-        lacking: size(r.refusal) as usize,
-        segments: size(r.value) as usize,
-    }
+    let r = track_in(p, &mut [0; 8192]);
+    Ok(size(r.value) as usize)
 }
 
-// The number of the first pass that is refused, 0 for none. Once the room left is ample for all passes to come, none of them is refused for room, and
-// their samples wait until they are written.
-pub fn first_refused(file: &[u8], passes: usize, room: usize) -> usize
-    requires { (refusal_of_rule file.now ≡ 0) × (passes ≡ count_of_rule file.now 3) }
-    ensures { (result ≡ number_from_rule file.now passes 0 room) × (result ≤ 8) }
+// Refused as the first pass is that is refused. Once the room left is ample for all passes to come, none of them is refused for room, and their samples wait
+// until they are written.
+pub fn first_refused(session: Session<'_>, room: usize) -> Result<(), Refusal>
+    ensures { number_in result ≡ number_from_rule session.entry.file.now (count_of_rule session.entry.file.now 3) 0 room }
 {
     let mut left = room;
-    let mut most = most_in_all(file, passes);
-    let mut i: usize = 0;
-    while i < passes {
-        let t = taken_by(file, i, most <= left);
-        if t.lacking != 0 {
-            return t.lacking;
+    let mut most = most_in_all(session);
+    for i in 0..session.count(3) {
+        let p = SessionPass::at(session, i);
+        let taken = taken_by(p, most <= left)?;
+        if left < taken {
+            return Err(Refusal::RoomForTrack);
         }
-        if left < t.segments {
-            return 8;
-        }
-        left -= t.segments;
-        most -= most_segments(pass_of(file, i));
-        i += 1;
+        left -= taken;
+        most -= most_segments(p);
     }
-    0
+    Ok(())
 }
 
 // ---- their tracks
 
-// Writes the tracks of all passes, none of which is refused, and answers how many segments each has.
-pub fn write_tracks(file: &[u8], passes: usize, room: &mut [i64]) -> [i64; 64]
-    requires file_value { (refusal_of_rule file.now ≡ 0) × (passes ≡ count_of_rule file.now 3) }
-    requires room_value { (in_turn file.now passes 0 room.old).refusal ≡ 0 }
-    ensures { (result ≡ (in_turn file.now passes 0 room.old).counts ++ replicate (64 - passes) (pos 0)) × (room.new ≡ (in_turn file.now passes 0 room.old).room) }
+// Writes the tracks of all passes, none of which is refused, and answers how many segments each has: the 64 counts of `Tracks`, as C has them.
+pub fn write_tracks(session: Session<'_>, room: &mut [i64]) -> [i64; 64]
+    requires { (in_turn session.file.now (count_of_rule session.file.now 3) 0 room.old).refusal ≡ 0 }
+    ensures counts { result ≡ (in_turn session.entry.file.now (count_of_rule session.entry.file.now 3) 0 room.old).counts ++ replicate (64 - count_of_rule session.entry.file.now 3) (pos 0) }
+    ensures room { room.new ≡ (in_turn session.entry.file.now (count_of_rule session.entry.file.now 3) 0 room.old).room }
 {
     let mut counts = [0i64; 64];
     let mut at: usize = 0;
-    let mut i: usize = 0;
-    while i < passes {
-        let r = track_in(file, i, &mut room[at..]);
-        let m = r.value;
-        counts[i] = m;
-        at += 4 * size(m) as usize;
-        i += 1;
+    for i in 0..session.count(3) {
+        let r = track_in(SessionPass::at(session, i), &mut room[at..]);
+        counts[i] = r.value;
+        at += 4 * size(r.value) as usize;
     }
     counts
 }
