@@ -1,104 +1,98 @@
-// What is printed: lines of numbers, and a room of bytes as one line. A line is gathered in a buffer, which is written
-// when it is full and when the line ends.
-ghost use Rattle.std.specs.Prelude.{◌+◌, ◌<◌, ◌≤◌, length};
+// What is printed: lines of numbers, and a room of bytes as one line. They are written to standard output's descriptor: `main` is given no handle by which
+// std's `print!` could, and numbers in hexadecimal need one or a String, which is heap.
+ghost use Rattle.std.specs.Prelude.{◌+◌, ◌<◌, ◌≤◌};
 
 use text::decimal::put_number;
 
 // The descriptor of standard output.
 const STDOUT: i32 = 1;
 
-// The place for some more bytes: `at`, or the start of the buffer, once what stands before `at` is written.
-fn place(buffer: &[u8], at: usize, more: usize) -> usize
-    requires { (at ≤ length buffer.now) × (more ≤ length buffer.now) }
-    ensures { result + more ≤ length buffer.now }
-{
-    if buffer.len() - at < more {
-        io::write_all(STDOUT, &buffer[0..at]);
-        return 0;
+// A line that is gathered in a buffer: what stands before `at` is still to be written. That is done when the buffer is full and when the line ends.
+#[derive(Drop)]
+struct Line {
+    buffer: [u8; 4096],
+    at: usize,
+    ghost inside: { at ≤ 4096 },
+}
+
+impl Line {
+    fn new() -> Line {
+        Line {
+            buffer: [0; 4096],
+            at: 0,
+        }
     }
-    at
-}
 
-// Writes what stands before `at`, and a line feed.
-fn end_line(buffer: &mut [u8], at: usize)
-    requires { (at ≤ length buffer.old) × (1 ≤ length buffer.old) }
-{
-    let end = place(buffer, at, 1);
-    buffer[end] = b'\n';
-    io::write_all(STDOUT, &buffer[0..end + 1]);
-}
-
-// A number and a space.
-fn put(buffer: &mut [u8], at: usize, z: i64) -> usize
-    requires { (at ≤ length buffer.old) × (21 ≤ length buffer.old) }
-    ensures { result ≤ length buffer.new }
-{
-    let start = place(buffer, at, 21);
-    put_number(buffer, start, z, b' ')
-}
-
-// A place without the space before it.
-fn unspaced(at: usize) -> usize
-    ensures { result ≤ at }
-{
-    if at == 0 {
-        return 0;
+    // Makes room for some more bytes.
+    fn make_room(&mut self, more: usize)
+        requires { more ≤ 4096 }
+        ensures { self.new.at + more ≤ 4096 }
+    {
+        if 4096 - self.at < more {
+            io::write_all(STDOUT, &self.buffer[..self.at]);
+            self.at = 0;
+        }
     }
-    at - 1
-}
 
-// One line of numbers.
-pub(crate) fn print_numbers(list: &[i64]) {
-    let mut buffer = [0u8; 4096];
-    let mut at: usize = 0;
-    let mut i: usize = 0;
-    while i < list.len() {
-        at = put(&mut buffer, at, list[i]);
-        i += 1;
+    // A number and a space.
+    fn put_number(&mut self, z: i64) {
+        self.make_room(21);
+        self.at = put_number(&mut self.buffer, self.at, z, b' ');
     }
-    end_line(&mut buffer, unspaced(at));
-}
 
-pub(crate) fn print_number(a: whole::Number) {
-    let row = [a.refusal, a.value];
-    print_numbers(&row);
+    // The two digits of a byte.
+    fn put_hex(&mut self, b: u8) {
+        self.make_room(2);
+        self.buffer[self.at] = digit(b / 16);
+        self.buffer[self.at + 1] = digit(b % 16);
+        self.at += 2;
+    }
+
+    // Takes back the space behind the last number.
+    fn take_space(&mut self) {
+        self.at = self.at.saturating_sub(1);
+    }
+
+    // Writes the rest, and a line feed.
+    fn end(&mut self) {
+        self.make_room(1);
+        self.buffer[self.at] = b'\n';
+        io::write_all(STDOUT, &self.buffer[..self.at + 1]);
+        self.at = 0;
+    }
 }
 
 fn digit(n: u8) -> u8
     requires { n < 16 }
 {
-    if n < 10 {
-        return b'0' + n;
-    }
-    b'a' - 10 + n
+    b"0123456789abcdef"[n as usize]
 }
 
-// The two digits of a byte.
-fn put_hex(buffer: &mut [u8], at: usize, b: u8) -> usize
-    requires { (at ≤ length buffer.old) × (2 ≤ length buffer.old) }
-    ensures { result ≤ length buffer.new }
-{
-    let start = place(buffer, at, 2);
-    buffer[start] = digit(b / 16);
-    buffer[start + 1] = digit(b % 16);
-    start + 2
+// One line of numbers.
+pub(crate) fn print_numbers(list: &[i64]) {
+    let mut line = Line::new();
+    for z in list {
+        line.put_number(*z);
+    }
+    line.take_space();
+    line.end();
 }
 
 // One line of bytes, in hexadecimal.
 pub(crate) fn print_bytes(bytes: &[u8]) {
-    let mut buffer = [0u8; 4096];
-    let mut at: usize = 0;
-    let mut i: usize = 0;
-    while i < bytes.len() {
-        at = put_hex(&mut buffer, at, bytes[i]);
-        i += 1;
+    let mut line = Line::new();
+    for b in bytes {
+        line.put_hex(*b);
     }
-    end_line(&mut buffer, at);
+    line.end();
+}
+
+pub(crate) fn print_number(a: whole::Number) {
+    print_numbers(&[a.refusal, a.value]);
 }
 
 // A number without a sign, and what stands behind it.
 pub(crate) fn print_bits(n: u64, behind: u8) {
-    let end = [behind];
     io::print_decimal(STDOUT, n);
-    io::write_all(STDOUT, &end);
+    io::write_all(STDOUT, &[behind]);
 }

@@ -1,47 +1,46 @@
 // Standard input, and whether a read of it failed.
-ghost use Rattle.std.specs.Prelude.{◌+◌, ◌≤◌, length};
+ghost use Rattle.std.specs.Prelude.{◌≤◌, length};
 
+use crate::say::{say, say_natural};
 use std::io::Read;
 
-// How many bytes were read, and whether a read failed behind them.
+// How many bytes were read to the start of a buffer, and whether a read failed behind them. No Result: what was read before a failure is taken in, too. No
+// slice: the programs' `RunPromise` speaks of the buffer after the call, and of so many of its bytes.
 #[derive(Drop)]
 pub struct Input {
     pub bytes: usize,
     pub failed: bool,
 }
 
-// One read, to the buffer from byte n of it on.
-fn read_from<R: Read>(stdin: &mut R, buffer: &mut [u8], n: usize) -> Input
-    requires { n ≤ length buffer.old }
-    ensures { n + result.bytes ≤ length buffer.old }
-{
-    let rest = &mut buffer[n..];
-    match stdin.read(rest) {
-        Ok(bytes) => Input {
-            bytes: bytes,
-            failed: false,
-        },
-        Err(_) => Input {
-            bytes: 0,
-            failed: true,
-        },
+impl Input {
+    // That a read failed, after so many bytes.
+    pub fn say_unread(&self) {
+        if self.failed {
+            say(b"standard input could not be read beyond byte ");
+            say_natural(self.bytes as u64);
+            say(b"\n");
+        }
     }
 }
 
-// Reads until the buffer is full, the input ends or a read fails. The kit's `io::read_full` does not tell the last two apart.
+// Reads until the buffer is full, the input ends or a read fails. The kit's `io::read_full` does not tell the last two apart, nor does `read_exact` say how
+// many bytes there were.
 pub fn read_input<R: Read>(stdin: &mut R, buffer: &mut [u8]) -> Input
     ensures { result.bytes ≤ length buffer.new }
 {
     let mut n: usize = 0;
+    // A read takes in as much as it likes, so no `for` counts the bytes.
     while n < buffer.len() {
-        let more = read_from(stdin, buffer, n);
-        if more.bytes == 0 {
-            return Input {
-                bytes: n,
-                failed: more.failed,
-            };
+        match stdin.read(&mut buffer[n..]) {
+            Ok(0) => break,
+            Ok(more) => n += more,
+            Err(_) => {
+                return Input {
+                    bytes: n,
+                    failed: true,
+                };
+            }
         }
-        n += more.bytes;
     }
     Input {
         bytes: n,

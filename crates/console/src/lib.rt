@@ -4,3 +4,4 @@
 pub mod ending;
 pub mod input;
 pub mod say;
+pub mod section;

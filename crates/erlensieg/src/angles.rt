@@ -1,6 +1,8 @@
 // Ticks, epochs, and Earth rotation.
 ghost use Rattle.sine.specs.Promises.{SinePromise, CosinePromise};
 ghost use Rattle.earth.specs.Promises.{LaterPromise, ArgumentsPromise, TidePromise, AnglePromise};
+ghost use Rattle.std.specs.Prelude.{◌≡◌};
+ghost use Rattle.erlensieg.specs.Nine.{nine_of};
 ghost use Rattle.erlensieg.specs.Promises.{NinePromise};
 
 use earth::{AngleAnswer, EpochAnswer, TicksAnswer};
@@ -19,6 +21,27 @@ pub struct Rotation {
     pub zx: i64,
     pub zy: i64,
     pub zz: i64,
+}
+
+// A struct for C cannot hold an array of arrays by value in every language that calls it, so the entries have names.
+impl From<[[i64; 3]; 3]> for Rotation {
+    ghost from_gives = { λ rows r. r ≡ nine_of rows };
+
+    #[tactic(auto, unfolding(crate::specs::Nine::nine_of))]
+    fn from(rows: [[i64; 3]; 3]) -> Rotation {
+        let [x, y, z] = rows;
+        Rotation {
+            xx: x[0],
+            xy: x[1],
+            xz: x[2],
+            yx: y[0],
+            yy: y[1],
+            yz: y[2],
+            zx: z[0],
+            zy: z[1],
+            zz: z[2],
+        }
+    }
 }
 
 #[unsafe(no_mangle)]
@@ -67,19 +90,5 @@ pub extern "C" fn fringe_angle_at(day: i64, f: i64) -> AngleAnswer
 pub extern "C" fn fringe_rotate(tick: u32) -> Rotation
     ensures { NinePromise tick result }
 {
-    let rows = earth::rotate(tick);
-    let x = rows[0];
-    let y = rows[1];
-    let z = rows[2];
-    Rotation {
-        xx: x[0],
-        xy: x[1],
-        xz: x[2],
-        yx: y[0],
-        yy: y[1],
-        yz: y[2],
-        zx: z[0],
-        zy: z[1],
-        zz: z[2],
-    }
+    earth::rotate(tick).into()
 }

@@ -10,7 +10,7 @@ use Rattle.whole.specs.Each.{all_below, first_not}
 use Rattle.whole.specs.Whole.{∣◌∣}
 use Rattle.whole.proofs.Each.{first-most, none_all}
 use Rattle.whole.proofs.Linear.{eq⇒, no_tf}
-use Rattle.sections.specs.File.{count_of_rule}
+use Rattle.sections.specs.File.{refusal_of_rule, count_of_rule}
 use Rattle.session.specs.Records.{check_of, pass_of_rule}
 use Rattle.delay.specs.Calls.{samples_of, all_there_rule, all_covered_rule}
 use Rattle.delay.specs.Sessions.{covers, sample_epoch_rule}
@@ -25,14 +25,17 @@ six false c e = absurd (omega (arith, eq⇒ _ _ e))
 first_below : (n : ℕ) (p : ℕ → Bool) → all_below n p ≡ false → first_not n p < n
 first_below n p h = lt_of_le-ne (first-most n p) (λ q. no_tf (sym (none_all n p q) ∙ h))
 
-module _ (s : List ℕ) (e : (check_of s).refusal ≡ pos 0) (i : ℕ) (l : i < ∣ (check_of s).passes ∣) (f : (lent_outcome s i).answer.refusal ≡ pos 6) where
+module _ (s : List ℕ) (h : refusal_of_rule s ≡ 0) (i : ℕ) (m : i < count_of_rule s 3) (f : (lent_outcome s i).answer.refusal ≡ pos 6) where
   not_covered : all_covered_rule s (pass_of_rule s i) ≡ false
   not_covered =
-      let h = accepted s e in
       let p = pass_of_rule s i in
-      let m : i < count_of_rule s 3 = omega (arith, l, counted s e) in
       six (all_there_rule s p.station1 p.station2 p.source) (all_covered_rule s p) (ap pos (sym (number_by s h i m)) ∙ sym (pass-number s h i m) ∙ f)
 
-  pub uncovered : first_not (samples_of (pass_of_rule s i)) (λ (j : ℕ). covers s (sample_epoch_rule (pass_of_rule s i) j).day) < samples_of (pass_of_rule s i)
+  pub uncovered_in : first_not (samples_of (pass_of_rule s i)) (λ (j : ℕ). covers s (sample_epoch_rule (pass_of_rule s i) j).day) < samples_of (pass_of_rule s i)
   unfolding all_covered_rule
-  uncovered = first_below (samples_of (pass_of_rule s i)) _ not_covered
+  uncovered_in = first_below (samples_of (pass_of_rule s i)) _ not_covered
+
+-- the same by what `session::check` answers
+pub uncovered : (s : List ℕ) → (check_of s).refusal ≡ pos 0 → (i : ℕ) → i < ∣ (check_of s).passes ∣ → (lent_outcome s i).answer.refusal ≡ pos 6
+    → first_not (samples_of (pass_of_rule s i)) (λ (j : ℕ). covers s (sample_epoch_rule (pass_of_rule s i) j).day) < samples_of (pass_of_rule s i)
+uncovered s e i l f = uncovered_in s (accepted s e) i (omega (arith, l, counted s e)) f

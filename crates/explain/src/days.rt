@@ -1,46 +1,34 @@
-// Refusal 6 of a pass, in words on standard error: the first sample whose epoch the file does not cover, and the day that is lacking.
+// Refusal 6 of a pass, in words on standard error: the first sample whose epoch the file does not cover, and the day that is lacking. The search for it gives
+// the count where nothing is found, as `first_not` does.
 ghost use Rattle.std.specs.Prelude.{◌≡◌, ℕ, ◌<◌, ◌≤◌, pos};
 ghost use Rattle.whole.specs.Each.{first_not};
 ghost use Rattle.whole.specs.Whole.{∣◌∣};
-ghost use Rattle.fields.specs.Records.{InPass};
-ghost use Rattle.sections.specs.File.{refusal_of_rule};
-ghost use Rattle.session.specs.Records.{check_of};
+ghost use Rattle.sections.specs.File.{count_of_rule};
 ghost use Rattle.delay.specs.Calls.{samples_of};
 ghost use Rattle.delay.specs.Sessions.{covers, sample_epoch_rule};
 ghost use Rattle.lines.specs.Text.{lent_outcome};
 
-use crate::fault::one_less;
 use crate::has;
 use console::say::{say, say_decimal, say_natural};
-use delay::{covers, sample_epoch};
-use fields::Pass;
-use sections::refusal::count_of;
+use delay::{SessionPass, covers};
+use sections::Session;
 use session::day_at;
-use session::records::pass_of;
+use whole::below::first_failing;
 
 // Whether the file covers the epoch of sample i.
-fn covered(file: &[u8], p: Pass, i: usize) -> bool
-    requires { (refusal_of_rule file.now ≡ 0) × InPass p × (i < 4096) }
-    ensures { result ≡ covers file.now (sample_epoch_rule p i).day }
+fn covered(p: SessionPass<'_>, i: usize) -> bool
+    requires { i < 4096 }
+    ensures { result ≡ covers p.entry.session.file.now (sample_epoch_rule p.entry.pass i).day }
 {
-    let e = sample_epoch(p, i);
-    covers(file, e.day)
+    let e = p.epoch(i);
+    covers(p.session, e.day)
 }
 
 // The first sample whose epoch the file does not cover, or the number of samples.
-fn first_uncovered(file: &[u8], p: Pass) -> usize
-    requires { (refusal_of_rule file.now ≡ 0) × InPass p }
-    ensures { result ≡ first_not (samples_of p) (λ (i : ℕ). covers file.now (sample_epoch_rule p i).day) }
+fn first_uncovered(p: SessionPass<'_>) -> usize
+    ensures { result ≡ first_not (samples_of p.entry.pass) (λ (i : ℕ). covers p.entry.session.file.now (sample_epoch_rule p.entry.pass i).day) }
 {
-    let n = p.samples as usize;
-    let mut i: usize = 0;
-    while i < n {
-        if !covered(file, p, i) {
-            return i;
-        }
-        i += 1;
-    }
-    n
+    first_failing(p.pass.samples as usize, |i| covered(p, i))
 }
 
 // The day after.
@@ -61,28 +49,24 @@ fn say_needs(day: i64, next: i64) {
 }
 
 // The days that the file has.
-fn say_days(file: &[u8])
-    requires { refusal_of_rule file.now ≡ 0 }
-{
-    let last = one_less(count_of(file, 2) as u64);
+fn say_days(s: Session<'_>) {
+    let last = s.count(2).saturating_sub(1);
     say(b"; the file has MJD ");
-    say_decimal(day_at(file, 0).mjd);
+    say_decimal(day_at(s.file, 0).mjd);
     say(b" to ");
-    say_decimal(day_at(file, last as usize).mjd);
+    say_decimal(day_at(s.file, last).mjd);
 }
 
 // Which of a day and the next the file lacks.
-fn say_lacking(file: &[u8], day: i64, next: i64)
-    requires { (check_of file.now).refusal ≡ pos 0 }
-{
+fn say_lacking(s: Session<'_>, day: i64, next: i64) {
     say(b", so ");
-    if has(file, 2, day) {
+    if has(s, 2, day) {
         say_decimal(next);
         say(b" is lacking");
         return;
     }
     say_decimal(day);
-    if has(file, 2, next) {
+    if has(s, 2, next) {
         say(b" is lacking");
         return;
     }
@@ -92,17 +76,17 @@ fn say_lacking(file: &[u8], day: i64, next: i64)
 }
 
 // Refusal 6: the pass has that number, so there is such a sample.
-pub(crate) fn explain_days(file: &[u8], i: usize)
-    requires { ((check_of file.now).refusal ≡ pos 0) × (i < ∣ (check_of file.now).passes ∣) × ((lent_outcome file.now i).answer.refusal ≡ pos 6) }
+pub(crate) fn explain_days(s: Session<'_>, i: usize)
+    requires { (i < count_of_rule s.file.now 3) × ((lent_outcome s.file.now i).answer.refusal ≡ pos 6) }
 {
-    let p = pass_of(file, i);
-    let j = first_uncovered(file, p);
-    let e = sample_epoch(p, j);
+    let p = SessionPass::at(s, i);
+    let j = first_uncovered(p);
+    let e = p.epoch(j);
     let next = after(e.day);
     say(b"sample ");
     say_natural(j as u64);
     say_needs(e.day, next);
-    say_days(file);
-    say_lacking(file, e.day, next);
+    say_days(s);
+    say_lacking(s, e.day, next);
     say(b"; passes and samples");
 }

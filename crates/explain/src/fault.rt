@@ -1,105 +1,90 @@
-// Refusals 2, 3 and 4, in words on standard error: the record and the field at which they arise, what was found there, and what is allowed.
+// Refusals 2, 3 and 4, in words on standard error: the record and the field at which they arise, what was found there, and what is allowed. Which of them
+// it is, `session::fault` says by a number in its C struct, `Place`, of which an enum would be made here to be asked for once.
 ghost use Rattle.std.specs.Prelude.{◌<◌, ◌≤◌};
 
-use crate::contents::{at_most, bytes_of, number_from, size_from};
-use console::say::{say, say_decimal, say_field, say_natural, say_section, say_unit};
-use sections::layouts::{Shape, layout_in};
+use crate::contents::{Entry, number_from};
+use console::say::{say, say_decimal, say_natural};
+use console::section::Section;
+use sections::layouts::{Order, Shape, layout_in};
 use session::Place;
 use whole::sign::size;
 
-// The place in which a kind stands, by the contents table.
-fn place_of(file: &[u8], kind: i64) -> usize
-    ensures { result < 4 }
-{
-    if number_from(file, 8) == kind {
-        return 0;
+// The records of a section, and the byte at which the one at fault starts.
+#[derive(Drop)]
+struct Record<'a> {
+    file: &'a [u8],
+    section: Section,
+    layout: Shape,
+    start: usize,
+    ghost within: { start ≤ 5_000_000 },
+}
+
+impl Record<'_> {
+    // Field k, and what was found there.
+    fn say_value(&self, k: usize)
+        requires { k < 8 }
+    {
+        say(b", ");
+        self.section.say_field(k);
+        say(b" is ");
+        say_decimal(number_from(self.file, self.start + 8 * k));
+        say(b", allowed ");
     }
-    if number_from(file, 32) == kind {
-        return 1;
+
+    // The byte of field k.
+    fn say_byte(&self, k: usize)
+        requires { k < 8 }
+    {
+        say(b", byte ");
+        say_natural((self.start + 8 * k) as u64);
     }
-    if number_from(file, 56) == kind {
-        return 2;
+
+    // The field by which the record is named, where its section's are in order: an id or an MJD.
+    fn say_name(&self) {
+        let l = &self.layout;
+        if l.order == Order::Any {
+            return;
+        }
+        say(b" (");
+        self.section.say_field(0);
+        say(b" ");
+        say_decimal(number_from(self.file, self.start));
+        say(b")");
     }
-    3
-}
 
-// The byte at which record i of a place starts, whose records have so many numbers.
-fn start_of(file: &[u8], place: usize, numbers: usize, i: u64) -> usize
-    requires { place < 4 }
-    ensures { result ≤ 5_000_000 }
-{
-    size_from(file, 24 * place + 16) + bytes_of(numbers, i)
-}
-
-// A field's number: no record has more than eight.
-fn field_number(z: i64) -> usize
-    ensures { result < 8 }
-{
-    let k = size(z);
-    if k < 8 {
-        return k as usize;
+    // Refusal 2, of field k.
+    fn explain_range(&self, k: usize)
+        requires { k < 8 }
+    {
+        let l = &self.layout;
+        self.say_name();
+        self.say_value(k);
+        say_decimal(l.fields[k].low);
+        say(b" to ");
+        say_decimal(l.fields[k].high);
+        self.say_byte(k);
+        self.section.say_unit(k);
     }
-    7
-}
 
-// The number before n; 0 has none.
-pub(crate) fn one_less(n: u64) -> u64 {
-    if n == 0 {
-        return 0;
+    // Refusals 3 and 4, with record i before it, whose first field is given.
+    fn explain_order(&self, number: i64, i: u64, before: u64)
+        requires { before ≤ 1_000_000 }
+    {
+        let l = &self.layout;
+        let high = size(l.fields[0].high);
+        self.say_value(0);
+        say_next(before, high, number);
+        say(b" because record ");
+        say_natural(i);
+        say(b" has ");
+        self.section.say_field(0);
+        say(b" ");
+        say_natural(before);
+        if high <= before {
+            say(b", which only the last record can have");
+        }
+        self.say_byte(0);
     }
-    n - 1
-}
-
-// Which section and which record.
-fn say_record(kind: i64, i: i64) {
-    say(b"section ");
-    say_decimal(kind);
-    say(b" (");
-    say_section(kind);
-    say(b"), record ");
-    say_decimal(i);
-}
-
-// Field k of a kind, and what was found at its byte.
-fn say_value(file: &[u8], kind: i64, k: usize, at: usize)
-    requires { k < 8 }
-{
-    say(b", ");
-    say_field(kind, k);
-    say(b" is ");
-    say_decimal(number_from(file, at));
-    say(b", allowed ");
-}
-
-// The byte of a field.
-fn say_byte(at: usize) {
-    say(b", byte ");
-    say_natural(at as u64);
-}
-
-// The first field by which a record is named, where its kind's records are in order: an id or an MJD.
-fn say_name(file: &[u8], kind: i64, order: u64, start: usize) {
-    if order == 0 {
-        return;
-    }
-    say(b" (");
-    say_field(kind, 0);
-    say(b" ");
-    say_decimal(number_from(file, start));
-    say(b")");
-}
-
-// Refusal 2, of field k of the record that starts at a byte.
-fn explain_range(file: &[u8], kind: i64, l: Shape, start: usize, k: usize)
-    requires { (k < 8) × (start ≤ 5_000_000) }
-{
-    say_name(file, kind, l.order, start);
-    say_value(file, kind, k, start + 8 * k);
-    say_decimal(l.low[k]);
-    say(b" to ");
-    say_decimal(l.high[k]);
-    say_byte(start + 8 * k);
-    say_unit(kind, k);
 }
 
 // What may stand behind a first field: the numbers above it where they are to rise, the next one where they are to be consecutive.
@@ -117,36 +102,35 @@ fn say_next(before: u64, high: u64, number: i64)
     }
 }
 
-// Refusals 3 and 4, of the record that starts at a byte, with record i before it, which starts at another.
-fn explain_order(file: &[u8], p: Place, high: u64, start: usize, i: u64, earlier: usize) {
-    let before = at_most(size(number_from(file, earlier)), 1_000_000);
-    say_value(file, p.section, 0, start);
-    say_next(before, high, p.number);
-    say(b" because record ");
-    say_natural(i);
-    say(b" has ");
-    say_field(p.section, 0);
-    say(b" ");
-    say_natural(before);
-    if high <= before {
-        say(b", which only the last record can have");
-    }
-    say_byte(start);
+// Which section and which record.
+fn say_record(kind: i64, i: i64) {
+    say(b"section ");
+    say_decimal(kind);
+    say(b" (");
+    Section::from(kind).say_name();
+    say(b"), record ");
+    say_decimal(i);
 }
 
 // What refusals 2, 3 and 4 mean.
 pub(crate) fn explain_fault(file: &[u8], p: Place) {
-    let place = place_of(file, p.section);
-    let l = layout_in(place, size(p.section) as usize);
-    let start = start_of(file, place, l.size, size(p.record));
+    let entry = Entry::of_kind(file, p.section);
+    let layout = layout_in(entry.place, size(p.section) as usize);
+    let numbers = layout.size;
+    let i = size(p.record) as usize;
+    let record = Record {
+        file,
+        section: Section::from(p.section),
+        layout,
+        start: entry.record_byte(numbers, i),
+    };
     say_record(p.section, p.record);
     if p.number == 2 {
-        let k = field_number(p.field);
-        explain_range(file, p.section, l, start, k);
+        record.explain_range(size(p.field).min(7) as usize);
     } else {
-        let i = one_less(size(p.record));
-        let earlier = start_of(file, place, l.size, i);
-        explain_order(file, p, size(l.high[0]), start, i, earlier);
+        let i = i.saturating_sub(1);
+        let before = size(number_from(file, entry.record_byte(numbers, i)));
+        record.explain_order(p.number, i as u64, before.min(1_000_000));
     }
     say(b"; records count from 0");
 }

@@ -48,7 +48,7 @@ module _ (s : List ℕ) (h : refusal_of_rule s ≡ 0) where
     pub pass-number : (lent_outcome s i).answer.refusal ≡ pos (samples_number s i 4096)
     pass-number = lent-number s h i l (replicate (4 * 2048) (pos 0)) (omega (arith, length-replicate (4 * 2048) (pos 0)))
 
-    neither_six : ((lent_outcome s i).answer.refusal ≡ pos 0 → ⊥) → ((lent_outcome s i).answer.refusal ≡ pos 5 → ⊥) → (lent_outcome s i).answer.refusal ≡ pos 6
+    pub neither_six : ((lent_outcome s i).answer.refusal ≡ pos 0 → ⊥) → ((lent_outcome s i).answer.refusal ≡ pos 5 → ⊥) → (lent_outcome s i).answer.refusal ≡ pos 6
     neither_six f g =
         let p = pass_of_rule s i in
         neither (lent_outcome s i).answer.refusal (all_there_rule s p.station1 p.station2 p.source) (all_covered_rule s p) (pass-number ∙ ap pos number_by) f g

@@ -1,11 +1,11 @@
 -- The text of a file, by what `session::check` answers for it. Assumes nothing.
-use mathlib.Core.Path.{◌≡◌, sym, ap, ◌∙◌}
+use mathlib.Core.Path.{◌≡◌, refl, sym, ap, ◌∙◌}
 use mathlib.Core.Bool.{true, false, cond}
 use mathlib.Core.List.{List}
 use Prim.Native.Nat.{ℕ, zero, suc}
 use native.Mathlib.Nat.{add-zero}
 use native.Mathlib.Omega.{arith}
-use borrow.Author.Tests.{le-leb}
+use borrow.Author.Tests.{le-leb, eq-eqb, ne_eqb}
 use lib.Dec.{eqb, leb, eqb-suc-zero}
 use lib.IntN.{pos}
 use lib.Signed.{le_z}
@@ -43,3 +43,13 @@ session_refused s e = refused_by s (refusal_of_rule s) e
 pub session_passes : (s : List ℕ) → le_z (pos 1) (check_of s).refusal ≡ false → session_text s ≡ pass_texts s ∣ (check_of s).passes ∣
 unfolding session_text check_of
 session_passes s e = passes_by s (refusal_of_rule s) e
+
+-- ---- the same by its refusal
+
+pub refused_text : (s : List ℕ) (n : ℕ) → n ≡ refusal_of_rule s → (n ≡ 0 → ⊥) → session_text s ≡ refused_line (pos n)
+unfolding session_text given
+refused_text s n e h = rw (sym e, ne_eqb n 0 h) refl
+
+pub passes_text : (s : List ℕ) → refusal_of_rule s ≡ 0 → session_text s ≡ pass_texts s (count_of_rule s 3)
+unfolding session_text given
+passes_text s h = rw (eq-eqb (refusal_of_rule s) 0 h) refl

@@ -1,4 +1,5 @@
-// The text that the program prints of a file, put into a lent room: specs/Text.antt says what it is.
+// The text that the program prints of a file, put into a lent room: specs/Text.antt says what it is. No Display: `pass_text` promises each byte of the room
+// (`Put`), a String is heap, and a writer of our own over the room would say no more than the calls of crate text.
 #![tactic(auto)]
 
 ghost use Rattle.std.specs.Prelude.{◌≡◌, ◌≤◌, length};
@@ -21,7 +22,8 @@ fn put_pass(room: &mut [u8], pass: usize, segments: i64) -> usize
     put_number(room, count, segments, b'\n')
 }
 
-// How long the text of a pass is, and the pass's refusal, 0 for none.
+// How long the text of a pass is, and the pass's refusal, 0 for none. No Result: the line of a refused pass has a length, too. The refusal is the number
+// that `fringe::pass_track` hands to C and `pass_text` promises: an enum made of it here would only be made a number again, to be printed.
 #[derive(Drop)]
 pub struct Text {
     pub length: usize,

@@ -1,11 +1,12 @@
 // How a run ends: what of the text was lost, in words on standard error, and whether all was answered.
-ghost use Rattle.std.specs.Prelude.{◌≡◌};
+ghost use Rattle.std.specs.Prelude.{◌≡◌, length};
 ghost use Rattle.whole.specs.Each.{all_below};
 ghost use Rattle.program.specs.Endings.{pass_answered};
 ghost use Rattle.explain.specs.Numbers.{Numbers};
 
 use console::ending::answered;
 use console::say::{say, say_natural};
+use whole::below::all_pass;
 
 // ---- what was lost
 
@@ -32,17 +33,9 @@ pub(crate) fn say_passes_lost(written: usize, passes: usize) {
 // ---- what was answered
 
 // Whether each of the file's passes is answered, by the numbers that they have.
-pub(crate) fn passes_answered(file: &[u8], passes: usize, numbers: &[i64]) -> bool
-    requires { Numbers file.now passes numbers.now }
-    ensures { result ≡ all_below passes (pass_answered file.now) }
+pub(crate) fn passes_answered(file: &[u8], numbers: &[i64]) -> bool
+    requires { Numbers file.now (length numbers.now) numbers.now }
+    ensures { result ≡ all_below (length numbers.now) (pass_answered file.now) }
 {
-    let mut i: usize = 0;
-    while i < passes {
-        let n = numbers[i];
-        if !answered(n) {
-            return false;
-        }
-        i += 1;
-    }
-    true
+    all_pass(numbers.len(), |i| answered(numbers[i]))
 }

@@ -5,13 +5,13 @@ use lib.Signed.{le_z}
 use mir.Syntax.{w64}
 use mir.Val.{of_z}
 use Rattle.whole.proofs.Linear.{no_ft}
-use Rattle.lines.proofs.Passes.{six_else}
+use Rattle.lines.proofs.Passes.{neither_six}
 use Rattle.explain.proofs.explain_pass.Goals as goal
 
 pub explain_days-requires : goal.explain_days-requires
 explain_days-requires c =
     let six =
-    six_else c.args.file.now c.requires.0 c.args.i c.requires.1
-    (λ z. no_ft (ap (le_z (pos 1)) (sym (c.requires.2 ∙ z)) ∙ c.requires.3))
-    (λ z. c.if-n-eq5.false (ap (of_z w64) (c.requires.2 ∙ z))) in
-    (c.requires.0, c.requires.1, six)
+    neither_six c.args.s.file.now c.args.s.accepted c.args.i c.requires.0
+    (λ z. no_ft (ap (le_z (pos 1)) (sym (c.requires.1 ∙ z)) ∙ c.requires.2))
+    (λ z. c.if-n-eq5.false (ap (of_z w64) (c.requires.1 ∙ z))) in
+    (c.requires.0, six)

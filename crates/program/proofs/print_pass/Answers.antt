@@ -7,8 +7,8 @@ use Rattle.program.proofs.print_pass.Goals as goal
 pub slice_bounds-write_pass-end : goal.slice_bounds-write_pass-end
 slice_bounds-write_pass-end c = omega (arith, put_inside c.pass_text-t.ensures.0)
 
-pub slice_bounds-write_pass-end-2 : goal.slice_bounds-write_pass-end-2
-slice_bounds-write_pass-end-2 c = omega (arith, length-take-le _ _ (put_inside c.pass_text-t.ensures.0))
+pub slice_bounds-write_pass-end-then-written-i : goal.slice_bounds-write_pass-end-then-written-i
+slice_bounds-write_pass-end-then-written-i c = omega (arith, length-take-le _ _ (put_inside c.pass_text-t.ensures.0))
 
-pub write_pass-whole-requires : goal.write_pass-whole-requires
-write_pass-whole-requires c = put_start c.pass_text-t.ensures.0
+pub write_pass-requires : goal.write_pass-requires
+write_pass-requires c = put_start c.pass_text-t.ensures.0

@@ -15,4 +15,4 @@ slice_bounds-write_session-end-2 c = sym (length-take-le _ _ (put_inside c.put_r
 
 pub write_session-requires : goal.write_session-requires
 write_session-requires c =
-    put_start c.put_refused-end.ensures ∙ ap refused_line (back (record { sfits = omega arith })) ∙ sym c.requires.1
+    put_start c.put_refused-end.ensures ∙ ap refused_line (back (record { sfits = omega arith }) ∙ c.number.ensures) ∙ sym c.requires.1

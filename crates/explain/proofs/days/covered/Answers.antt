@@ -11,9 +11,9 @@ use Rattle.explain.proofs.days.covered.Goals as goal
 
 pub covers-requires : goal.covers-requires
 covers-requires c =
-    let day : ℤ = (sample_epoch_rule c.args.p c.args.i).day in
-    let small = sample-day c.args.p c.args.i c.requires.1 c.requires.2 in
+    let day : ℤ = (sample_epoch_rule c.args.p.pass c.args.i).day in
+    let small = sample-day c.args.p.pass c.args.i c.args.p.in_ranges c.requires in
     -- the day as the code holds it
-    let back : to_z w64 (of_z w64 c.sample_epoch-e.result.day) ≡ day =
-    ap (λ (e : Epoch). to_z w64 (of_z w64 e.day)) c.sample_epoch-e.ensures ∙ is (var day 1_000_000 small) tt in
-    (c.requires.0, rw back small)
+    let back : to_z w64 (of_z w64 c.e.inside.day) ≡ day =
+    ap (λ (e : Epoch). to_z w64 (of_z w64 e.day)) (c.e.view_is ∙ c.epoch-e.ensures) ∙ is (var day 1_000_000 small) tt in
+    rw back small

@@ -11,58 +11,37 @@ use Rattle.whole.specs.Whole.{∣◌∣}
 use Rattle.whole.proofs.Machine.{var, is}
 use Rattle.earth.specs.declared.time.Epoch.{Epoch}
 use Rattle.fields.specs.declared.Pass.{Pass}
-use Rattle.fields.specs.Records.{InPass}
-use Rattle.sections.specs.File.{count_of_rule}
-use Rattle.session.specs.Records.{check_of, pass_of_rule}
+use Rattle.sections.specs.File.{refusal_of_rule, count_of_rule}
+use Rattle.session.specs.Records.{pass_of_rule}
 use Rattle.session.proofs.Laws.{pass_in}
 use Rattle.delay.specs.Calls.{samples_of}
 use Rattle.delay.specs.Sessions.{covers, sample_epoch_rule}
 use Rattle.delay.proofs.Epochs.{samples-count, sample-day}
 use Rattle.lines.specs.Text.{lent_outcome}
-use Rattle.lines.proofs.Passes.{accepted, counted}
-use Rattle.explain.proofs.Uncovered.{uncovered}
+use Rattle.explain.proofs.Uncovered.{uncovered_in}
 use Rattle.explain.proofs.days.explain_days.Goals as goal
 
-module _ (s : List ℕ) (e : (check_of s).refusal ≡ pos 0) (i : ℕ) (l : i < ∣ (check_of s).passes ∣) where
-  there : i < count_of_rule s 3
-  there = omega (arith, l, counted s e)
-
-  in-pass : InPass (pass_of_rule s i)
-  in-pass = pass_in s (accepted s e) i there
-
+module _ (s : List ℕ) (h : refusal_of_rule s ≡ 0) (i : ℕ) (l : i < count_of_rule s 3) where
   -- the sample that is found is one of the pass
-  few : (p : Pass) (j : ℕ) → p ≡ pass_of_rule s i → (lent_outcome s i).answer.refusal ≡ pos 6 → j ≡ first_not (samples_of p) (λ (k : ℕ). covers s (sample_epoch_rule p k).day) → j < 4096
-  few p j q six h =
-      let h' = h ∙ ap (λ (r : Pass). first_not (samples_of r) (λ (k : ℕ). covers s (sample_epoch_rule r k).day)) q in
-      let m = (samples-count (pass_of_rule s i) in-pass).1 in
-      omega (arith, h', m, uncovered s e i l six)
+  few : (f : List ℕ) (p : Pass) (j : ℕ) → f ≡ s → p ≡ pass_of_rule s i → (lent_outcome s i).answer.refusal ≡ pos 6
+      → j ≡ first_not (samples_of p) (λ (k : ℕ). covers f (sample_epoch_rule p k).day) → j < 4096
+  few f p j r q six e =
+      let e' = e ∙ ap (λ (g : List ℕ). first_not (samples_of p) (λ (k : ℕ). covers g (sample_epoch_rule p k).day)) r
+      ∙ ap (λ (r : Pass). first_not (samples_of r) (λ (k : ℕ). covers s (sample_epoch_rule r k).day)) q in
+      let m = (samples-count (pass_of_rule s i) (pass_in s h i l)).1 in
+      omega (arith, e', m, uncovered_in s h i l six)
 
-pub pass_of-p-requires : goal.pass_of-p-requires
-pass_of-p-requires c = let s = c.args.file.now in (accepted s c.requires.0, there s c.requires.0 c.args.i c.requires.1)
-
-pub first_uncovered-j-requires : goal.first_uncovered-j-requires
-first_uncovered-j-requires c =
-    let s = c.args.file.now in
-    (accepted s c.requires.0, rw c.pass_of-p.ensures (in-pass s c.requires.0 c.args.i c.requires.1))
-
-pub sample_epoch-e-requires : goal.sample_epoch-e-requires
-sample_epoch-e-requires c =
-    let s = c.args.file.now in (
-      rw c.pass_of-p.ensures (in-pass s c.requires.0 c.args.i c.requires.1),
-      few s c.requires.0 c.args.i c.requires.1 c.pass_of-p.result c.first_uncovered-j.result c.pass_of-p.ensures c.requires.2 c.first_uncovered-j.ensures,
-    )
+pub epoch-e-requires : goal.epoch-e-requires
+epoch-e-requires c =
+    let p = c.at-p.result in
+    few c.args.s.file.now c.args.s.accepted c.args.i c.requires.0 p.session.file.now p.pass c.first_uncovered-j.result c.at-p.ensures.0 c.at-p.ensures.1 c.requires.1 c.first_uncovered-j.ensures
 
 pub after-next-requires : goal.after-next-requires
 after-next-requires c =
-    let s = c.args.file.now in
-    let p = c.pass_of-p.result in
+    let p = c.at-p.result in
     let j = c.first_uncovered-j.result in
-    let right : InPass p = rw c.pass_of-p.ensures (in-pass s c.requires.0 c.args.i c.requires.1) in
-    let d : ∣ (sample_epoch_rule p j).day ∣ ≤ 1_000_000 =
-    sample-day p j right (few s c.requires.0 c.args.i c.requires.1 p j c.pass_of-p.ensures c.requires.2 c.first_uncovered-j.ensures) in
-    let b : to_z w64 (of_z w64 c.sample_epoch-e.result.day) ≡ (sample_epoch_rule p j).day =
-    ap (λ (x : Epoch). to_z w64 (of_z w64 x.day)) c.sample_epoch-e.ensures ∙ is (var _ 1_000_000 d) tt in
+    let n = few c.args.s.file.now c.args.s.accepted c.args.i c.requires.0 p.session.file.now p.pass j c.at-p.ensures.0 c.at-p.ensures.1 c.requires.1 c.first_uncovered-j.ensures in
+    let d : ∣ (sample_epoch_rule p.pass j).day ∣ ≤ 1_000_000 = sample-day p.pass j p.in_ranges n in
+    let b : to_z w64 (of_z w64 c.e.inside.day) ≡ (sample_epoch_rule p.pass j).day =
+    ap (λ (x : Epoch). to_z w64 (of_z w64 x.day)) (c.e.view_is ∙ c.epoch-e.ensures) ∙ is (var _ 1_000_000 d) tt in
     rw b d
-
-pub say_days-requires : goal.say_days-requires
-say_days-requires c = accepted c.args.file.now c.requires.0
