@@ -181,6 +181,7 @@ int main(int count, char **words)
 	names();
 	limits();
 	empties();
+	stacks();
 	printf("%d passed, %d failed\n", tests - failed, failed);
 	return failed > 0;
 }

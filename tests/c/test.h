@@ -67,5 +67,6 @@ void tracks(void);
 void names(void);
 void limits(void);
 void empties(void);
+void stacks(void);
 
 #endif

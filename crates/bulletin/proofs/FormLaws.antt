@@ -7,7 +7,7 @@ use native.Mathlib.Nat.{add-zero, zero-add, pow-le-pow_right}
 use native.Mathlib.Numerals.{add-one}
 use native.Mathlib.Omega.{arith}
 use native.Mathlib.Decide.{dec_lt}
-use borrow.Author.Tests.{eq-eqb, ne_eqb, ltb-true, eqb-true}
+use borrow.Author.Tests.{eq-eqb, ne_eqb, lt-ltb, ltb-true, eqb-true}
 use lib.Dec.{eqb, ltb}
 use lib.ListN.{length, get_or, take, drop, length-take, length-drop}
 use lib.Seq.{drop-cons, drop-length, take_all}
@@ -94,8 +94,32 @@ minus_long (b ∷ s) e = omega arith
 -- ---- the columns about the point
 
 module _ (p : ℕ) (s : List ℕ) where
+  pub whole-none : length (whole_digits p s) ≡ 0 → is_decimal_rule p s ≡ false
+  unfolding is_decimal_rule
+  whole-none e = rw (e)
+
+  module _ (f : length (whole_digits p s) ≡ 0 → ⊥) where
+    some_digit : ltb 0 (length (whole_digits p s)) ≡ true
+    some_digit = lt-ltb 0 (length (whole_digits p s)) (omega (arith, f))
+
+    pub whole_no : all_digits_rule (whole_digits p s) ≡ false → is_decimal_rule p s ≡ false
+    unfolding is_decimal_rule
+    whole_no e = simp (some_digit, e)
+
+    module _ (g : all_digits_rule (whole_digits p s) ≡ true) where
+      pub point_no : (get_or s (length s - suc p) 0 ≡ 46 → ⊥) → is_decimal_rule p s ≡ false
+      unfolding is_decimal_rule
+      point_no e = simp (some_digit, g, ne_eqb (get_or s (length s - suc p) 0) 46 e)
+
+      pub point_yes : get_or s (length s - suc p) 0 ≡ 46 → is_decimal_rule p s ≡ all_digits_rule (decimals p s)
+      unfolding is_decimal_rule
+      point_yes e = simp (some_digit, g, eq-eqb (get_or s (length s - suc p) 0) 46 e)
+
   -- as the code cuts the columns
   module _ (h : p + 1 < length s) where
+    pub point_is : length s - p - 1 ≡ length s - suc p
+    point_is = omega arith
+
     pub front_is : take (length s - p - 1 - 0) s ≡ take (length s - suc p) s
     front_is = let e : length s - p - 1 - 0 ≡ length s - suc p = omega arith in ap (λ (n : ℕ). take n s) e
 

@@ -35,6 +35,11 @@ abbrev pub days_in : Result (List ℤ) Refusal → Days
 days_in (Ok zs) = days zs
 days_in (Err r) = no_days_rule (number_of r)
 
+-- the same, where the numbers stand in places that are lent
+abbrev pub days_by : {A : Type 0} → Result A Refusal → List ℤ → Days
+days_by (Ok a) zs = days zs
+days_by (Err r) zs = no_days_rule (number_of r)
+
 -- the answer where nothing but a field of a record is left to refuse for
 unfoldable pub given_records : List ℕ → ℤ → List ℤ → Days
 given_records text first tai =

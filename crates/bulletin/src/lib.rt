@@ -8,10 +8,10 @@ mod putting;
 mod records;
 pub mod taking;
 
-ghost use Rattle.std.specs.Prelude.{◌≤◌, length, ◌≡◌};
+ghost use Rattle.std.specs.Prelude.{◌≤◌, length, ◌≡◌, pos, replicate};
 ghost use Rattle.whole.specs.Answers.{answer_in};
 ghost use Rattle.bulletin.specs.Promises.{DaysPromise, RowsPromise};
-ghost use Rattle.bulletin.specs.Code.{days_in};
+ghost use Rattle.bulletin.specs.Code.{days_by, days_in};
 
 pub use form::{is_minus, past_minus};
 use listing::{Rows, list_rows};
@@ -49,12 +49,24 @@ impl From<Result<[i64; 384], Refusal>> for Days {
 pub fn days_from_rows(text: &[u8], first: i64, count: i64, tai: &[i64]) -> Days
     ensures { DaysPromise text.now first count tai.now result }
 {
-    days_of_text(text, first, count, tai).into()
+    let mut days = [0i64; 384];
+    match days_of_text(text, first, count, tai, &mut days) {
+        Ok(()) => Days { refusal: 0, days },
+        Err(r) => Days::from(Err(r)),
+    }
 }
 
-// The same, as the records or why they are refused.
-fn days_of_text(text: &[u8], first: i64, count: i64, tai: &[i64]) -> Result<[i64; 384], Refusal>
-    ensures { DaysPromise text.now first count tai.now (days_in result) }
+// The same: puts the records into the places that are lent, which are zeros, or says why they are refused. The steps hand up no array, for each would keep a
+// copy of it on the stack.
+fn days_of_text(
+    text: &[u8],
+    first: i64,
+    count: i64,
+    tai: &[i64],
+    days: &mut [i64; 384],
+) -> Result<(), Refusal>
+    requires { days.old ≡ replicate 384 (pos 0) }
+    ensures { DaysPromise text.now first count tai.now (days_by result days.new) }
 {
     if 65_536 < text.len() {
         return Err(Refusal::Contents);
@@ -69,13 +81,19 @@ fn days_of_text(text: &[u8], first: i64, count: i64, tai: &[i64]) -> Result<[i64
         dates: &dates[..n],
         starts: &starts,
     };
-    days_among(rows, first, count, tai)
+    days_among(rows, first, count, tai, days)
 }
 
 // The same for a text whose rows all have a day.
-fn days_among(rows: Rows, first: i64, count: i64, tai: &[i64]) -> Result<[i64; 384], Refusal>
-    requires { length rows.text.now ≤ 65536 }
-    ensures { DaysPromise rows.entry.text.now first count tai.now (days_in result) }
+fn days_among(
+    rows: Rows,
+    first: i64,
+    count: i64,
+    tai: &[i64],
+    days: &mut [i64; 384],
+) -> Result<(), Refusal>
+    requires { (length rows.text.now ≤ 65536) × (days.old ≡ replicate 384 (pos 0)) }
+    ensures { DaysPromise rows.entry.text.now first count tai.now (days_by result days.new) }
 {
     if !taken_filled(rows, first, count) {
         return Err(Refusal::Row);
@@ -86,7 +104,7 @@ fn days_among(rows: Rows, first: i64, count: i64, tai: &[i64]) -> Result<[i64; 3
     if !values_in_range(first, count, tai) {
         return Err(Refusal::Range);
     }
-    records_of(rows, first, tai)
+    records_of(rows, first, tai, days)
 }
 
 // Writes a row for each record, 186 bytes with its line feed, to the start of the room; answers how many bytes that is.

@@ -1,12 +1,12 @@
 // The records of the days asked for, each of which has a row.
-ghost use Rattle.std.specs.Prelude.{◌≡◌, true, ◌&&◌, ◌*◌, ◌<◌, ◌≤◌, pos, ◌+ℤ◌, length};
+ghost use Rattle.std.specs.Prelude.{◌≡◌, true, ◌&&◌, ◌*◌, ◌<◌, ◌≤◌, pos, ◌+ℤ◌, length, replicate};
 ghost use Rattle.std.proofs.lemmas.List.Edits.{sets};
 ghost use Rattle.whole.specs.Whole.{∣◌∣};
 ghost use Rattle.whole.specs.Ranges.{eq_z};
 ghost use Rattle.fields.specs.Ranges.{inside, mjd};
 ghost use Rattle.bulletin.specs.Rows.{row_at_rule, is_filled_rule, first_in_rule};
 ghost use Rattle.bulletin.specs.Reading.{day_count, in_ranges_rule, numbers_of_rule, record_for};
-ghost use Rattle.bulletin.specs.Code.{Ready, days_in, given_records};
+ghost use Rattle.bulletin.specs.Code.{Ready, days_by, given_records};
 
 use crate::layout::{UT1, X, Y};
 use crate::listing::{Rows, row_at};
@@ -79,18 +79,17 @@ fn put_day(days: &mut [i64; 384], k: usize, d: Day)
     days[6 * k..6 * k + 6].copy_from_slice(&numbers);
 }
 
-// The records, as many as there are of TAI-UTC; refused where a field of one is out of its range.
-pub fn records_of(rows: Rows, first: i64, tai: &[i64]) -> Result<[i64; 384], Refusal>
-    requires { Ready rows.text.now first (pos (length tai.now)) × (length tai.now ≤ 64) × (∣ first ∣ ≤ 100_000) }
-    ensures { days_in result ≡ given_records rows.entry.text.now first tai.now }
+// Puts the records into the places that are lent, as many as there are of TAI-UTC; refused where a field of one is out of its range.
+pub fn records_of(rows: Rows, first: i64, tai: &[i64], days: &mut [i64; 384]) -> Result<(), Refusal>
+    requires { Ready rows.text.now first (pos (length tai.now)) × (length tai.now ≤ 64) × (∣ first ∣ ≤ 100_000) × (days.old ≡ replicate 384 (pos 0)) }
+    ensures { days_by result days.new ≡ given_records rows.entry.text.now first tai.now }
 {
-    let mut days = [0i64; 384];
     for k in 0..tai.len() {
         let d = record_of(rows, day_at(first, k), tai[k]);
         if !in_ranges(d) {
             return Err(Refusal::Range);
         }
-        put_day(&mut days, k, d);
+        put_day(days, k, d);
     }
-    Ok(days)
+    Ok(())
 }

@@ -113,10 +113,10 @@ pub fn rows_sum(rows: &[[i64; 6]], a: Delaunay) -> i64
 
 // The rows of the definition.
 #[tactic(auto, unfolding(crate::specs::Rows::rows))]
-fn table() -> [[i64; 6]; 41]
-    ensures { result ≡ rows }
+fn table() -> &'static [[i64; 6]]
+    ensures { result.now ≡ rows }
 {
-    TABLE
+    &TABLE
 }
 
 // The tide in nanoseconds, at n minutes of TT. A sine is scaled by 2^30.
@@ -126,6 +126,6 @@ pub fn tide_at_minute(n: i64) -> i64
     ensures { result ≡ tide_at n }
 {
     let table = table();
-    let t = rows_sum(&table, arguments_at(n));
+    let t = rows_sum(table, arguments_at(n));
     round_div(1_000 * t, 1_073_741_824)
 }

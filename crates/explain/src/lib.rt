@@ -95,12 +95,12 @@ fn explain_pass(s: Session<'_>, i: usize, n: i64)
     say(b" count from 0\n");
 }
 
-// What the numbers of the refused passes mean, one for each pass. `Numbers` stays a clause: a struct of the file and the slice would be made once and taken
-// apart at once.
+// What the numbers of the refused passes mean, one for each pass; what stands behind them in the list is not read. `Numbers` stays a clause: a struct of the
+// file and the slice would be made once and taken apart at once.
 pub fn explain_passes(s: Session<'_>, numbers: &[i64])
-    requires { (length numbers.now ≡ count_of_rule s.file.now 3) × Numbers s.file.now (length numbers.now) numbers.now }
+    requires { Numbers s.file.now (count_of_rule s.file.now 3) numbers.now }
 {
-    for i in 0..numbers.len() {
+    for i in 0..s.count(3) {
         let n = numbers[i];
         if 1 <= n {
             explain_pass(s, i, n);

@@ -4,7 +4,6 @@ pub mod Greedy
 pub mod Pairs
 pub mod Hull
 pub mod Mirror
-pub mod Places
 pub mod Walk
 pub mod Steps
 pub mod Halves

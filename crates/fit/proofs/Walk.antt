@@ -83,9 +83,9 @@ module _ (N : ℕ) (x v q : List ℕ) (s z m a : ℕ) where
       rw (ex, ev, eq) (push g N f x v q s i y m l a p d hx hv hq ha j.rate t (order_part g N f x v q s z i m h u c.order) j.nearly)
 
 -- the first two samples: what `ask` and `add` would make of a chain of the first
-pub pair_is : (N : ℕ) (x v q x' v' q' : List ℕ) (a b s p r : ℕ) → 1 < length x → 1 < length v → 1 < length q → a + s < b → p ≡ b - a - 1 → r ≡ p - s
-    → x' ≡ set (set x 0 0) 1 1 → v' ≡ set (set v 0 a) 1 b → q' ≡ set q 1 p → Paired N x' v' q' a b s r
-pair_is N x v q x' v' q' a b s p r lx lv lq lt hp hr ex ev eq g f w bd hs ha hb = rw (ex, ev, eq) (
+pub pair_is : (N : ℕ) (x v q : List ℕ) (a b s p r : ℕ) → 1 < length x → 1 < length v → 1 < length q → a + s < b → p ≡ b - a - 1 → r ≡ p - s
+    → Paired N (set (set x 0 0) 1 1) (set (set v 0 a) 1 b) (set q 1 p) a b s r
+pair_is N x v q a b s p r lx lv lq lt hp hr g f w bd hs ha hb = (
   lo_step g w N f 1 0 r none asked.0,
   keep_end N x₀ v₀ q 0 0 1 b 0 p 1 (set x₀ 1 1) (set v₀ 1 b) (set q 1 p) (keep_start N x₀ v₀ q 0 0 1 b p (omega (arith, left (b - 1)))) (omega arith) (omega arith) (λ h. absurd (omega arith)) refl
       (simp length-set lx) (simp length-set lv) lq refl refl refl g f r (λ i. omega (arith, bd i)) hb asked.1,

@@ -1,19 +1,8 @@
 -- For the code: the chain of the samples that can still set the least rate. Sample k is the better at the rate p the lower N * k + g (f + k) - p * k is; the
 -- later of two is the better from a rate on, and the chain keeps that rate. `x` holds the samples' places in the run, `v` their tilted values
 -- (N + 1) * k + g (f + k), `q` those rates: tilted by one more than N, a least rate is one difference, divided, with nothing added to round it up.
-use Rattle.std.specs.Prelude.{◌≡◌, List, map, ◌↔◌, ℕ, ◌+◌, ◌*◌, ◌/◌, ◌-◌, ◌≤◌, ◌<◌, get_or}
-use Rattle.fit.specs.declared.chain.Step.{Step}
+use Rattle.std.specs.Prelude.{◌≡◌, List, ◌↔◌, ℕ, ◌+◌, ◌*◌, ◌/◌, ◌-◌, ◌≤◌, ◌<◌, get_or}
 use Rattle.fit.specs.Rates.{low, row_lo, lo}
-
--- the three of the steps of a chain
-abbrev pub places : List Step → List ℕ
-places c = map (λ (s : Step). s.place) c
-
-abbrev pub values : List Step → List ℕ
-values c = map (λ (s : Step). s.value) c
-
-abbrev pub froms : List Step → List ℕ
-froms c = map (λ (s : Step). s.from) c
 
 -- what the samples at k and at j leave of the rates, with twice the tolerance v: p is one of them
 abbrev pub Leaves : (ℕ → ℕ) → ℕ → ℕ → ℕ → ℕ → ℕ → ℕ → Type 0

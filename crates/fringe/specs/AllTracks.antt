@@ -48,6 +48,11 @@ abbrev pub tracks_in : Result (List ℤ) Refusal → Tracks
 tracks_in (Ok counts) = record { refusal = pos 0; counts = counts }
 tracks_in (Err r) = no_tracks_rule (number_of r)
 
+-- the same, where the counts stand in places that are lent
+abbrev pub tracks_by : {A : Type 0} → Result A Refusal → List ℤ → Tracks
+tracks_by (Ok a) counts = record { refusal = pos 0; counts = counts }
+tracks_by (Err r) counts = no_tracks_rule (number_of r)
+
 -- refused, the call leaves the room as it was
 unfoldable pub all_outcome : List ℕ → List ℤ → AllOutcome
 all_outcome s room =

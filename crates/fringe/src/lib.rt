@@ -9,7 +9,7 @@ ghost use Rattle.std.specs.Prelude.{◌≡◌, ltb, [], ◌∷◌, IfOk};
 ghost use Rattle.whole.specs.Refusals.{first_of, number_in, unless};
 ghost use Rattle.sections.specs.File.{refusal_of_rule, count_of_rule};
 ghost use Rattle.session.specs.Records.{pass_of_rule};
-ghost use Rattle.fringe.specs.AllTracks.{tracks_in};
+ghost use Rattle.fringe.specs.AllTracks.{tracks_in, tracks_by};
 ghost use Rattle.fringe.specs.Promises.{PassTrackPromise, AllTracksPromise};
 
 use delay::SessionPass;
@@ -58,12 +58,14 @@ pub fn pass_track(file: &[u8], pass: usize, room: &mut [i64]) -> Number
     }
 }
 
-fn counted(file: &[u8], room: &mut [i64]) -> Result<[i64; 64], Refusal>
-    ensures { AllTracksPromise file.now room.old (tracks_in result) room.new }
+// The same, with the counts in places that are lent: a result that holds them would keep a copy of them on the stack.
+fn counted(file: &[u8], room: &mut [i64], counts: &mut [i64; 64]) -> Result<(), Refusal>
+    ensures { AllTracksPromise file.now room.old (tracks_by result counts.new) room.new }
 {
     let session = Session::read(file)?;
     first_refused(session, room.len() / 4)?;
-    Ok(write_tracks(session, room))
+    *counts = write_tracks(session, room);
+    Ok(())
 }
 
 // Writes the tracks of all passes from the start of the room, each behind the last, and answers how many segments each has. Nothing is written before it is
@@ -71,5 +73,9 @@ fn counted(file: &[u8], room: &mut [i64]) -> Result<[i64; 64], Refusal>
 pub fn all_tracks(file: &[u8], room: &mut [i64]) -> Tracks
     ensures { AllTracksPromise file.now room.old result room.new }
 {
-    counted(file, room).into()
+    let mut counts = [0; 64];
+    match counted(file, room, &mut counts) {
+        Ok(()) => Tracks { refusal: 0, counts },
+        Err(r) => Tracks::from(Err(r)),
+    }
 }

@@ -1,8 +1,8 @@
 -- What the fault of a segment says, and how the judgement goes on from one segment to the next. Assumes nothing.
 use mathlib.Core.Path.{◌≡◌, refl}
-use mathlib.Core.Bool.{true, false}
+use mathlib.Core.Bool.{Bool, true, false}
 use mathlib.Core.List.{List, [], ◌∷◌}
-use Prim.Native.Nat.{ℕ, ◌+◌}
+use Prim.Native.Nat.{ℕ, ◌+◌, ◌≤◌}
 use native.Mathlib.Omega.{arith}
 use borrow.Author.Tests.{eq-eqb, ne_eqb}
 use lib.Dec.{eqb}
@@ -10,7 +10,7 @@ use lib.ListN.{length}
 use lib.IntN.{ℤ, pos}
 use Rattle.whole.specs.Whole.{pos_part}
 use Rattle.whole.specs.Answers.{given}
-use Rattle.whole.specs.Refusals.{unless}
+use Rattle.whole.specs.Refusals.{unless, first_of}
 use Rattle.whole.proofs.Answers.{given_yes, given_no, given-each}
 use Rattle.whole.proofs.Refusals.{unless_zero, first_zero}
 use Rattle.predict.specs.declared.segment.Lent.{Lent}
@@ -59,6 +59,16 @@ module _ (s : List ℤ) (t at : ℕ) (x : Lent) where
       let b = first_zero (unless (length_ok_rule x) 2) (unless (samples_ok_rule s t at x) 3 ∷ []) a.1 in
       let c = first_zero (unless (samples_ok_rule s t at x) 3) [] b.1 in
       record { place = unless_zero (place_in_rule (length s) at x) 0 a.0; long = unless_zero (length_ok_rule x) 1 b.0; near = unless_zero (samples_ok_rule s t at x) 2 c.0 }
+
+  pub fault_most : fault_of_rule s t at x ≤ 3
+  unfolding fault_of_rule
+  fault_most = go (place_in_rule (length s) at x) (length_ok_rule x) (samples_ok_rule s t at x)
+    where
+      go : (a b c : Bool) → first_of (unless a 1 ∷ unless b 2 ∷ unless c 3 ∷ []) ≤ 3
+      go false b c = omega arith
+      go true false c = omega arith
+      go true true false = omega arith
+      go true true true = omega arith
 
   pub sound_placed : Sound s t at x → Placed (length s) at x
   sound_placed g = placed (length s) at x g.place g.long

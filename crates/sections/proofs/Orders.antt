@@ -4,12 +4,14 @@ use Prim.Native.Nat.{ℕ, zero, suc, ◌≤◌}
 use mathlib.Core.Bool.{Bool, true, false, not}
 use native.Mathlib.Omega.{arith}
 use lib.Dec.{eqb, leb}
-use borrow.Author.Tests.{leb-true}
+use borrow.Author.Tests.{leb-true, ne_eqb}
 use denote.Enum.Bare.{sameb}
 use Rattle.sections.specs.contracts.layouts.Order.{the_type}
 use Rattle.sections.specs.declared.layouts.Order.{Order}
 use Rattle.sections.specs.declared.layouts.Order.TheVariants.{Any, Rising, Consecutive}
 use Rattle.sections.specs.Code.{order_of, order_number, shape_of}
+use lib.IntN.{ℤ}
+use Rattle.sections.specs.File.{steps}
 use Rattle.sections.specs.Layouts.{Layout, places, no_layout, layout_in_rule}
 use Rattle.sections.proofs.Shapes.{any_kind}
 
@@ -45,3 +47,13 @@ denied false e = refl
 pub affirmed : (b : Bool) → not b ≡ false → b ≡ true
 affirmed true e = refl
 affirmed false e = sym e
+
+-- an order made of a number asks what that number asks, of two records and of a section: from 3 on that is nothing
+pub order_kept : (n : ℕ) (a b : ℤ) → steps (order_number (order_of n)) a b ≡ steps n a b
+unfolding steps
+order_kept zero a b = refl
+order_kept (suc zero) a b = refl
+order_kept (suc (suc zero)) a b = refl
+order_kept (suc (suc (suc n))) a b =
+    let m = suc (suc (suc n)) in
+    rw (ne_eqb m 1 (λ z. omega (arith, z)), ne_eqb m 2 (λ z. omega (arith, z))) refl

@@ -38,9 +38,13 @@ shape_of l = record { size = length l.fields; fewest = l.fewest; most = l.most; 
 abbrev pub inside_by : List ℕ → ℕ → List Range → ℕ → Bool
 inside_by s at fields k = inside (get_or fields k (range 0 0)) (number_at_rule s (at + 8 * k))
 
--- so do all of record i, of records of a layout from byte at on
+-- so do all of record i, of records of so many numbers from byte at on
+abbrev pub fields_by : List ℕ → ℕ → ℕ → List Range → ℕ → Bool
+fields_by s at size fields i = all_below size (inside_by s (at + 8 * (size * i)) fields)
+
+-- the same of the records of a layout
 abbrev pub record_by : List ℕ → ℕ → Shape → ℕ → Bool
-record_by s at l i = all_below l.size (inside_by s (at + 8 * (l.size * i)) l.fields)
+record_by s at l i = fields_by s at l.size l.fields i
 
 -- the first number of record i + 1 may stand behind that of record i
 abbrev pub step_by : List ℕ → ℕ → ℕ → ℕ → ℕ → Bool

@@ -3,7 +3,7 @@
 ghost use Rattle.std.specs.Prelude.{◌≡◌};
 ghost use Rattle.sections.specs.File.{steps};
 ghost use Rattle.sections.specs.Layouts.{layout_in_rule, places};
-ghost use Rattle.sections.specs.Code.{order_number, shape_of};
+ghost use Rattle.sections.specs.Code.{order_of, order_number, shape_of};
 
 use fields::ranges::{
     COORDINATE, DECLINATION, ID, MARK, MILLISECOND, MJD, POLE, RIGHT_ASCENSION, Range, SAMPLES,
@@ -16,6 +16,19 @@ pub enum Order {
     Any,
     Rising,
     Consecutive,
+}
+
+// The order with a number, as a layout of `places` has it: a number from 3 on asks for nothing, as 0 does (`order_kept` of proofs/Orders.antt).
+impl From<u64> for Order {
+    ghost from_gives = { λ n o. o ≡ order_of n };
+
+    fn from(n: u64) -> Order {
+        match n {
+            1 => Order::Rising,
+            2 => Order::Consecutive,
+            _ => Order::Any,
+        }
+    }
 }
 
 impl Order {

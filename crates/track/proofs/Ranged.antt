@@ -1,15 +1,15 @@
 -- What refusal 2 leaves: samples and tolerance in their ranges.
-use mathlib.Core.Path.{◌≡◌, refl, sym, subst}
+use mathlib.Core.Path.{◌≡◌, refl, sym, ap, subst, ◌∙◌}
 use mathlib.Core.Bool.{true, ◌&&◌}
 use mathlib.Core.List.{List}
 use mathlib.Core.Logic.{⊎_elim}
-use Prim.Native.Nat.{◌≤◌}
+use Prim.Native.Nat.{ℕ, ◌≤◌}
 use native.Mathlib.Omega.{arith}
-use borrow.Author.Tests.{leb-true}
-use lib.Dec.{T}
+use borrow.Author.Tests.{leb-true, le-leb, lt-leb}
+use lib.Dec.{T, leb}
 use lib.ListN.{length, get_or-eq_default}
 use lib.IntN.{ℤ, pos, negsuc, nat_abs}
-use lib.Signed.{non_neg}
+use lib.Signed.{le_z, non_neg}
 use mir.Syntax.{w64}
 use mir.Val.{Fits}
 use Rattle.whole.specs.Whole.{pos_part, neg_part, ∣◌∣}
@@ -18,9 +18,21 @@ use Rattle.fields.specs.Ranges.{inside, samples, tolerance}
 use Rattle.fields.proofs.Inside.{inside_holds}
 use Rattle.fit.specs.Line.{sample, Small}
 use Rattle.whole.proofs.Each.{below_each}
+use Rattle.whole.proofs.Tests.{no_and, and_yes}
 use Rattle.fit.proofs.Tests.{lt_or}
 use Rattle.whole.specs.Each.{all_below}
 use Rattle.track.specs.Answer.{small_at, in_range}
+
+-- within ±130,000,000,000, as the code tests it
+pub small_test : (z : ℤ) → (le_z (negsuc 129_999_999_999) z && le_z z (pos 130_000_000_000)) ≡ leb ∣ z ∣ 130_000_000_000
+small_test (pos n) = ap (λ (k : ℕ). leb k 130_000_000_000) (plain n)
+  where
+    plain : (n : ℕ) → n ≡ ∣ pos n ∣
+    plain n = omega arith
+small_test (negsuc n) = ⊎_elim
+    (λ l. no_and (leb n 129_999_999_999) true (lt-leb n 129_999_999_999 l) ∙ sym (lt-leb ∣ negsuc n ∣ 130_000_000_000 (omega arith)))
+    (λ l. and_yes (le-leb n 129_999_999_999 l) refl ∙ sym (le-leb ∣ negsuc n ∣ 130_000_000_000 (omega arith)))
+    (lt_or 129_999_999_999 n)
 
 pub small_of : (s : List ℤ) → all_below (length s) (small_at s) ≡ true → Small s
 small_of s h i = ⊎_elim (λ l. leb-true ∣ sample s i ∣ 130_000_000_000 (below_each (length s) i (small_at s) l h))

@@ -9,7 +9,6 @@ use lib.Dec.{T, ltb, ltb→lt, nltb→le}
 use lib.ListN.{length, get_or, set}
 use lib.Seq.{get_or-set_same, get_or-set_other}
 use lib.IntN.{ℤ}
-use Rattle.fit.specs.declared.run.Run.{Run}
 use Rattle.fit.specs.Line.{Small}
 use Rattle.fit.specs.Greedy.{counts}
 use Rattle.fit.specs.Rates.{fit_of, least}
@@ -79,16 +78,16 @@ pub start_at_next : (s : List ℤ) (t i f c : ℕ) → f ≡ start_at s t i → 
 unfolding start_at
 start_at_next s t i f c h k = rw add-one (cc)
 
-abbrev none : Run
-none = record { count = 0; least = 0 }
-
 -- one more run noted
-pub stored_more : (s : List ℤ) (t : ℕ) (rs : List Run) (m f : ℕ) (r : Run) → Stored s t rs m → m < length rs
-    → f ≡ start_at s t m → r.count ≡ run_of s t f → r.least ≡ least s t f r.count → Stored s t (set rs m r) (m + 1)
-stored_more s t rs m f r h a e d g i j = ⊎_elim old new (at_or i m (omega arith))
+pub stored_more : (s : List ℤ) (t : ℕ) (ks ps : List ℕ) (m f c l : ℕ) → Stored s t ks ps m → m < length ks → m < length ps
+    → f ≡ start_at s t m → c ≡ run_of s t f → l ≡ least s t f c → Stored s t (set ks m c) (set ps m l) (m + 1)
+stored_more s t ks ps m f c l h a b e d g i j = ⊎_elim old new (at_or i m (omega arith))
   where
-    old : i < m → ((get_or (set rs m r) i none).count ≡ run_of s t (start_at s t i)) × ((get_or (set rs m r) i none).least ≡ least s t (start_at s t i) (run_of s t (start_at s t i)))
-    old u = rw (get_or-set_other rs m i r none (λ k. let z : i ≡ m = k in omega arith)) (h i u)
+    old : i < m → (get_or (set ks m c) i 0 ≡ run_of s t (start_at s t i)) × (get_or (set ps m l) i 0 ≡ least s t (start_at s t i) (run_of s t (start_at s t i)))
+    old u = (
+      get_or-set_other ks m i c 0 (λ k. let z : i ≡ m = k in omega arith) ∙ (h i u).0,
+      get_or-set_other ps m i l 0 (λ k. let z : i ≡ m = k in omega arith) ∙ (h i u).1,
+    )
 
-    new : i ≡ m → ((get_or (set rs m r) i none).count ≡ run_of s t (start_at s t i)) × ((get_or (set rs m r) i none).least ≡ least s t (start_at s t i) (run_of s t (start_at s t i)))
-    new q = let x : get_or (set rs m r) m none ≡ r = get_or-set_same rs m r none a in rw (q, x, sym e) (d, g ∙ ap (λ (z : ℕ). least s t f z) d)
+    new : i ≡ m → (get_or (set ks m c) i 0 ≡ run_of s t (start_at s t i)) × (get_or (set ps m l) i 0 ≡ least s t (start_at s t i) (run_of s t (start_at s t i)))
+    new q = let x : get_or (set ks m c) m 0 ≡ c = get_or-set_same ks m c 0 a in let y : get_or (set ps m l) m 0 ≡ l = get_or-set_same ps m l 0 b in (cc, cc)

@@ -1,6 +1,5 @@
 -- For the code: the one list of segments that the rule allows, made run by run. proofs/Theorems.antt shows that it is the rule's, so no reader need believe this file.
 use Rattle.std.specs.Prelude.{ℕ, zero, suc, ◌+◌, ◌<◌, ◌≡◌, List, [], ◌∷◌, length, get_or, ℤ}
-use Rattle.fit.specs.declared.run.Run.{Run}
 use Rattle.fit.specs.Greedy.{longest, counts}
 use Rattle.fit.specs.Rates.{fit_of, least, offset_of, rate_of_rule}
 use Rattle.track.specs.Segments.{Segment}
@@ -26,10 +25,7 @@ unfoldable pub start_at : List ℤ → ℕ → ℕ → ℕ
 start_at s t zero = 0
 start_at s t (suc i) = start_at s t i + run_of s t (start_at s t i)
 
-abbrev none : Run
-none = record { count = 0; least = 0 }
-
--- the lent list holds the first m runs, with their least rates
-abbrev pub Stored : List ℤ → ℕ → List Run → ℕ → Type 0
-Stored s t runs m = (i : ℕ) → i < m
-    → ((get_or runs i none).count ≡ run_of s t (start_at s t i)) × ((get_or runs i none).least ≡ least s t (start_at s t i) (run_of s t (start_at s t i)))
+-- the lent lists hold the counts and the least rates of the first m runs
+abbrev pub Stored : List ℤ → ℕ → List ℕ → List ℕ → ℕ → Type 0
+Stored s t lengths rates m = (i : ℕ) → i < m
+    → (get_or lengths i 0 ≡ run_of s t (start_at s t i)) × (get_or rates i 0 ≡ least s t (start_at s t i) (run_of s t (start_at s t i)))

@@ -10,6 +10,7 @@ use whole::{Number, Refusal};
 
 mod count;
 mod make;
+mod noted;
 pub mod range;
 mod write;
 

@@ -4,13 +4,13 @@ ghost use Rattle.track.specs.Answer.{in_range};
 ghost use Rattle.track.specs.Promises.{TrackPromise};
 
 use crate::count::count_segments;
+use crate::noted::Runs;
 use crate::write::write_segments;
-use fit::run::Run;
 use fit::samples::Samples;
 use whole::{Number, Refusal};
 
 // Writes the track to the start of the room, and answers how many segments it has. It is counted first, so that a room that is too short stays as it was.
-// The runs are noted in an array, and their number apart, since there is no heap. It answers a `Number` and no Result: `TrackPromise` is of that struct.
+// It answers a `Number` and no Result: `TrackPromise` is of that struct.
 pub fn make_track(samples: &[i64], tolerance: i64, room: &mut [i64]) -> Number
     requires { in_range samples.now tolerance ≡ true }
     ensures { TrackPromise samples.now tolerance room.old result room.new }
@@ -19,11 +19,11 @@ pub fn make_track(samples: &[i64], tolerance: i64, room: &mut [i64]) -> Number
         values: samples,
         tolerance: tolerance as u64,
     };
-    let mut runs = [Run { count: 0, least: 0 }; 2048];
+    let mut runs = Runs::NONE;
     let m = count_segments(samples, &mut runs);
     if room.len() / 4 < m {
         return Number::from(Err(Refusal::RoomForTrack));
     }
-    write_segments(samples, &runs[..m], room);
+    write_segments(samples, &runs, m, room);
     Number::from(Ok(m as i64))
 }

@@ -7,10 +7,11 @@ pub mod long;
 mod refusal;
 pub mod sign;
 
-ghost use Rattle.std.specs.Prelude.{◌≡◌};
-ghost use Rattle.whole.specs.Answers.{answer_in};
+ghost use Rattle.std.specs.Prelude.{◌≡◌, ◌<◌};
+ghost use Rattle.whole.specs.Answers.{answer_in, no_number_rule};
 
 pub use refusal::Refusal;
+use sign::number;
 
 // What a call answers: 0 or the refusal's number, and a value, which is 0 where refused. C reads it, so the number stands beside the value.
 #[repr(C)]
@@ -31,5 +32,16 @@ impl From<Result<i64, Refusal>> for Number {
                 value: 0,
             },
         }
+    }
+}
+
+// The answer of a call that is refused with n, for a number that no `Refusal` has, too.
+pub fn no_number(n: usize) -> Number
+    requires { n < 65536 }
+    ensures { result ≡ no_number_rule n }
+{
+    Number {
+        refusal: number(n),
+        value: 0,
     }
 }

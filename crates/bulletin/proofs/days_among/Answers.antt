@@ -59,7 +59,7 @@ pub returns-then-not-taken_filled : goal.returns-then-not-taken_filled
 returns-then-not-taken_filled c =
     let a = c.args in
     let f = filled_is c.ranges.first c.ranges.count a.rows.text.now c.taken_filled.ensures c.if-not-taken_filled.true in
-    unfilled (c.requires, a.rows.listed) a.first a.count a.tai.now f
+    unfilled (c.requires.0, a.rows.listed) a.first a.count a.tai.now f
 
 pub days_there-requires : goal.days_there-requires
 days_there-requires c = near c.args.rows.listed
@@ -69,7 +69,7 @@ returns-then-not-days_there c =
     let a = c.args in
     let f = filled_is c.ranges.first c.ranges.count a.rows.text.now c.taken_filled.ensures c.if-not-taken_filled.false in
     let t = there_is c.ranges.first c.ranges.count a.rows.listed c.days_there.ensures c.if-not-days_there.true in
-    missing (c.requires, a.rows.listed) a.first a.count a.tai.now f t
+    missing (c.requires.0, a.rows.listed) a.first a.count a.tai.now f t
 
 pub returns-then-not-values_in_range : goal.returns-then-not-values_in_range
 returns-then-not-values_in_range c =
@@ -77,13 +77,13 @@ returns-then-not-values_in_range c =
     let f = filled_is c.ranges.first c.ranges.count a.rows.text.now c.taken_filled.ensures c.if-not-taken_filled.false in
     let t = there_is c.ranges.first c.ranges.count a.rows.listed c.days_there.ensures c.if-not-days_there.false in
     let v = values_are c.ranges.first c.ranges.count a.tai.now c.values_in_range.ensures c.if-not-values_in_range.true in
-    wrong (c.requires, a.rows.listed) a.first a.count a.tai.now f t v
+    wrong (c.requires.0, a.rows.listed) a.first a.count a.tai.now f t v
 
 pub records_of-requires : goal.records_of-requires
 records_of-requires c =
     let a = c.args in
-    let s = short (c.requires, a.rows.listed) a.first a.count a.tai.now in
-    let d = dated (c.requires, a.rows.listed) a.first a.count a.tai.now in
+    let s = short (c.requires.0, a.rows.listed) a.first a.count a.tai.now in
+    let d = dated (c.requires.0, a.rows.listed) a.first a.count a.tai.now in
     let f = filled_is c.ranges.first c.ranges.count a.rows.text.now c.taken_filled.ensures c.if-not-taken_filled.false in
     let t = there_is c.ranges.first c.ranges.count a.rows.listed c.days_there.ensures c.if-not-days_there.false in
     let v = values_are c.ranges.first c.ranges.count a.tai.now c.values_in_range.ensures c.if-not-values_in_range.false in
@@ -92,13 +92,14 @@ records_of-requires c =
       record { filled = rw e f; there = rw e t },
       few_days a.rows.text.now a.first a.count a.tai.now s d f t v,
       first_small a.rows.text.now a.first a.count a.tai.now s d f t v,
+      c.requires.1,
     )
 
 pub returns : goal.returns
 returns c =
     let a = c.args in
-    let s = short (c.requires, a.rows.listed) a.first a.count a.tai.now in
-    let d = dated (c.requires, a.rows.listed) a.first a.count a.tai.now in
+    let s = short (c.requires.0, a.rows.listed) a.first a.count a.tai.now in
+    let d = dated (c.requires.0, a.rows.listed) a.first a.count a.tai.now in
     let f = filled_is c.ranges.first c.ranges.count a.rows.text.now c.taken_filled.ensures c.if-not-taken_filled.false in
     let t = there_is c.ranges.first c.ranges.count a.rows.listed c.days_there.ensures c.if-not-days_there.false in
     let v = values_are c.ranges.first c.ranges.count a.tai.now c.values_in_range.ensures c.if-not-values_in_range.false in

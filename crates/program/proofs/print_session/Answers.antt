@@ -44,7 +44,8 @@ print_passes-written-requires c =
 
 pub explain_passes-requires : goal.explain_passes-requires
 explain_passes-requires c =
-    (c.print_passes-written.auto.numbers ∙ taken c.count.result c.count.ensures.1 ∙ c.count.ensures.0, c.print_passes-written.ensures)
+    let k = c.print_passes-written.auto.numbers ∙ taken c.count.result c.count.ensures.1 ∙ c.count.ensures.0 in
+    rw (sym k) c.print_passes-written.ensures
 
 pub returns-in-Ok : goal.returns-in-Ok
 returns-in-Ok c =

@@ -42,7 +42,7 @@ module _ {first z : ℤ} (k : ℕ) (f : SFits w64 first) (b : to_z w64 (of_z w64
 
 pub loop-k-init : goal.loop-k-init
 unfolding joined
-loop-k-init c = (below_all 0 _ (λ i l. absurd (omega arith)), refl)
+loop-k-init c = (below_all 0 _ (λ i l. absurd (omega arith)), c.requires.3)
 
 pub record_of-d-requires : goal.record_of-d-requires
 record_of-d-requires c =

@@ -3,7 +3,7 @@ use Rattle.std.proofs.Common.{◌≡◌, ◌+◌, ◌-◌, ◌*◌, ◌≤◌, L
 use Rattle.fit.specs.declared.chain.Chain.{Chain}
 use Rattle.fit.specs.Line.{Small}
 use Rattle.fit.specs.Rates.{scaled, tilt, fit_of, hi, mirror}
-use Rattle.fit.specs.Chains.{places, values, froms, Asked}
+use Rattle.fit.specs.Chains.{Asked}
 use Rattle.fit.proofs.Halves.{Half, Next, paired, safe_ask, safe_add, asked, added}
 use Rattle.fit.proofs.Lines.{bound, fits-two}
 use Rattle.fit.proofs.Mirror.{mirror_bound, hi_mirror, lo_top}
@@ -34,13 +34,13 @@ module _ (s : List ℤ) (t : ℕ) (h : Small s) (k : t ≤ 1_000_000) where
     turned_height = omega (arith, value (f + c) r e, turned (scaled s) (65536 * t) (f + c) r e)
 
     -- the chains once it is asked of them
-    module _ (a b : Chain) (l p : ℕ) (es : b.steps ≡ a.steps) (et : b.tail ≡ a.tail) where
-      plain_next : Half (scaled s) (65536 * t) f a c l → Asked tilt (places a.steps) (values a.steps) (froms a.steps) a.head a.tail c ((tilt + 1) * c + r) (2 * (65536 * t)) l b.head p
+    module _ (a b : Chain) (l p : ℕ) (es : (b.places ≡ a.places) × (b.values ≡ a.values) × (b.froms ≡ a.froms)) (et : b.tail ≡ a.tail) where
+      plain_next : Half (scaled s) (65536 * t) f a c l → Asked tilt a.places a.values a.froms a.head a.tail c ((tilt + 1) * c + r) (2 * (65536 * t)) l b.head p
           → Next (scaled s) (65536 * t) f b c p
       plain_next i n = asked (scaled s) (65536 * t) f lim a b c l ((tilt + 1) * c + r) p es et i height n
 
       turned_next : Half (mirror (scaled s) (65536 * t) tilt) (65536 * t) f a c l
-          → Asked tilt (places a.steps) (values a.steps) (froms a.steps) a.head a.tail c ((tilt + 1) * c + tilt - 2 * (65536 * t) - r) (2 * (65536 * t)) l b.head p
+          → Asked tilt a.places a.values a.froms a.head a.tail c ((tilt + 1) * c + tilt - 2 * (65536 * t) - r) (2 * (65536 * t)) l b.head p
           → Next (mirror (scaled s) (65536 * t) tilt) (65536 * t) f b c p
       turned_next i n = asked (mirror (scaled s) (65536 * t) tilt) (65536 * t) f mlim a b c l ((tilt + 1) * c + tilt - 2 * (65536 * t) - r) p es et i turned_height n
 

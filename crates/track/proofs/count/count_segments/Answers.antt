@@ -33,43 +33,42 @@ loop-f-init c = record {
   fewer = omega arith;
   left = zero-add _ ∙ ap length (track_of_start c.args.samples.values.now c.args.samples.tolerance);
   start = refl;
-  runs_len = omega arith;
+  counts_len = omega arith;
+  least_len = omega arith;
   stored = λ i h. absurd (omega arith);
 }
 
-pub offset_bounds-runs-m : goal.offset_bounds-runs-m
-offset_bounds-runs-m c = let x = c.args.samples in let i = c.loop-f.invariant in
-    omega (arith, more x.values.now x.tolerance _ _ _ _ x.small c.requires x.near c.loop-f-test.true i.fewer i.left c.most_from.ensures c.longest_run-run.ensures.0)
-
-pub bounds-runs-m : goal.bounds-runs-m
-bounds-runs-m c = let x = c.args.samples in let i = c.loop-f.invariant in
-    omega (arith, more x.values.now x.tolerance _ _ _ _ x.small c.requires x.near c.loop-f-test.true i.fewer i.left c.most_from.ensures c.longest_run-run.ensures.0)
+pub note-requires : goal.note-requires
+note-requires c = let x = c.args.samples in let i = c.loop-f.invariant in
+    let k = more x.values.now x.tolerance _ _ _ _ x.small c.requires x.near c.loop-f-test.true i.fewer i.left (omega arith) c.longest_run-run.ensures.0 in (omega (arith, k), omega (arith, k, c.requires))
 
 pub overflow_add-f : goal.overflow_add-f
 overflow_add-f c = let x = c.args.samples in let i = c.loop-f.invariant in
-    omega (arith, more x.values.now x.tolerance _ _ _ _ x.small c.requires x.near c.loop-f-test.true i.fewer i.left c.most_from.ensures c.longest_run-run.ensures.0)
+    omega (arith, more x.values.now x.tolerance _ _ _ _ x.small c.requires x.near c.loop-f-test.true i.fewer i.left (omega arith) c.longest_run-run.ensures.0)
 
 pub overflow_add-m : goal.overflow_add-m
 overflow_add-m c = let x = c.args.samples in let i = c.loop-f.invariant in
-    omega (arith, more x.values.now x.tolerance _ _ _ _ x.small c.requires x.near c.loop-f-test.true i.fewer i.left c.most_from.ensures c.longest_run-run.ensures.0)
+    omega (arith, more x.values.now x.tolerance _ _ _ _ x.small c.requires x.near c.loop-f-test.true i.fewer i.left (omega arith) c.longest_run-run.ensures.0)
 
 pub loop-f-smaller : goal.loop-f-smaller
 loop-f-smaller c = let x = c.args.samples in let i = c.loop-f.invariant in
-    omega (arith, more x.values.now x.tolerance _ _ _ _ x.small c.requires x.near c.loop-f-test.true i.fewer i.left c.most_from.ensures c.longest_run-run.ensures.0)
+    omega (arith, more x.values.now x.tolerance _ _ _ _ x.small c.requires x.near c.loop-f-test.true i.fewer i.left (omega arith) c.longest_run-run.ensures.0)
 
 pub loop-f-preserved : goal.loop-f-preserved
 loop-f-preserved c =
     let x = c.args.samples in
     let r = c.longest_run-run.result in
     let i = c.loop-f.invariant in
-    let k = more x.values.now x.tolerance _ _ _ _ x.small c.requires x.near c.loop-f-test.true i.fewer i.left c.most_from.ensures c.longest_run-run.ensures.0 in
+    let k = more x.values.now x.tolerance _ _ _ _ x.small c.requires x.near c.loop-f-test.true i.fewer i.left (omega arith) c.longest_run-run.ensures.0 in
     record {
       first = omega (arith, k);
       fewer = omega (arith, k);
       left = omega (arith, k.3);
       start = start_at_next x.values.now x.tolerance c.loop-f.m c.loop-f.f r.count i.start k.0;
-      runs_len = simp length-set i.runs_len;
-      stored = stored_more x.values.now x.tolerance c.loop-f.runs c.loop-f.m c.loop-f.f r i.stored (omega (arith, k, i.runs_len)) i.start k.0 c.longest_run-run.ensures.1;
+      counts_len = rw c.note.ensures.0 (simp length-set i.counts_len);
+      least_len = rw c.note.ensures.1 (simp length-set i.least_len);
+      stored = rw (c.note.ensures.0, c.note.ensures.1) (stored_more x.values.now x.tolerance c.loop-f.runs.counts c.loop-f.runs.least c.loop-f.m c.loop-f.f r.count r.least i.stored
+          (omega (arith, k, i.counts_len)) (omega (arith, k, i.least_len)) i.start k.0 c.longest_run-run.ensures.1);
     }
 
 pub returns : goal.returns

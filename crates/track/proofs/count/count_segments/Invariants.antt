@@ -9,8 +9,9 @@ invariant-loop-f l = record {
   fewer : l.m ≤ l.f;
   left : l.m + length (rest_of l.samples.values.now l.samples.tolerance (length l.samples.values.now - l.m) l.f) ≡ length (track_of l.samples.values.now l.samples.tolerance);
   start : l.f ≡ start_at l.samples.values.now l.samples.tolerance l.m;
-  runs_len : length l.runs ≡ 2048;
-  stored : Stored l.samples.values.now l.samples.tolerance l.runs l.m;
+  counts_len : length l.runs.counts ≡ 2048;
+  least_len : length l.runs.least ≡ 2048;
+  stored : Stored l.samples.values.now l.samples.tolerance l.runs.counts l.runs.least l.m;
 }
 
 abbrev pub decreases-loop-f : goal.decreases-loop-f

@@ -1,11 +1,9 @@
 use Rattle.std.proofs.Common.{◌≡◌, sym, ap, ◌∙◌, List, ℕ, ℤ, ◌*◌, ◌≤◌, ◌++◌, length, drop, arith, w64, pos, to_z}
 use lib.IntN.{nat_abs}
 use mir.ValLaws.{to_z_pos}
-use Rattle.std.proofs.lemmas.List.{length-take-le}
 use Rattle.whole.specs.Whole.{pos_part}
 use Rattle.whole.specs.declared.Number.{Number}
 use Rattle.whole.proofs.Linear.{back}
-use Rattle.fit.specs.declared.run.Run.{Run}
 use Rattle.track.specs.Segments.{flat}
 use Rattle.track.specs.Made.{track_of}
 use Rattle.track.proofs.Ranged.{Ranged, ranged, handed_on}
@@ -14,8 +12,8 @@ use Rattle.track.proofs.Theorems.{track_of_half}
 use Rattle.track.proofs.make.make_track.Goals as goal
 
 -- there is a place for each run
-noted : (s : List ℤ) (t z : ℤ) (m : ℕ) (runs : List Run) → z ≡ t → Ranged s t → m ≡ length (track_of s (nat_abs z)) → length runs ≡ 2048 → m ≤ length runs
-noted s t z m runs e g many long =
+noted : (s : List ℤ) (t z : ℤ) (m : ℕ) → z ≡ t → Ranged s t → m ≡ length (track_of s (nat_abs z)) → m ≤ 2048
+noted s t z m e g many =
     let h = handed_on t z e g in
     omega (arith, many ∙ ap (λ (n : ℕ). length (track_of s n)) h.same, track_of_half s (pos_part t) g.small g.tol, g.few)
 
@@ -41,19 +39,10 @@ returns-then-room-m c =
     ap (λ (n : Number). record { answer = n; room = c.args.room.now }) c.from.ensures
     ∙ sym (answer_8 s t c.args.room.now c.requires (omega (arith, c.if-room-m.true, many)))
 
-pub slice_bounds-runs-end : goal.slice_bounds-runs-end
-slice_bounds-runs-end c =
-    noted c.args.samples.now c.args.tolerance _ _ _ (back c.ranges.tolerance) (ranged c.args.samples.now c.args.tolerance c.requires) c.count_segments-m.ensures.0 c.count_segments-m.array_long
-
-pub slice_bounds-write_segments-end : goal.slice_bounds-write_segments-end
-slice_bounds-write_segments-end c =
-    let l = noted c.args.samples.now c.args.tolerance _ _ _ (back c.ranges.tolerance) (ranged c.args.samples.now c.args.tolerance c.requires) c.count_segments-m.ensures.0 c.count_segments-m.array_long in
-    sym (length-take-le _ _ l)
-
 pub write_segments-requires-clause-all : goal.write_segments-requires-clause-all
 write_segments-requires-clause-all c =
-    let l = noted c.args.samples.now c.args.tolerance _ _ _ (back c.ranges.tolerance) (ranged c.args.samples.now c.args.tolerance c.requires) c.count_segments-m.ensures.0 c.count_segments-m.array_long in
-    length-take-le _ _ l ∙ c.count_segments-m.ensures.0
+    let many = c.count_segments-m.ensures.0 in
+    (many, noted c.args.samples.now c.args.tolerance _ _ (back c.ranges.tolerance) (ranged c.args.samples.now c.args.tolerance c.requires) many)
 
 pub returns : goal.returns
 returns c =

@@ -1,9 +1,6 @@
 -- `Chain::add` meets its contract.
-use Rattle.std.proofs.Common.{◌+◌, ◌<◌, refl, length, arith}
-use Rattle.std.proofs.lemmas.List.{map-set}
+use Rattle.std.proofs.Common.{List, ℕ, ap, ◌+◌, set, refl, arith}
 use Rattle.fit.specs.Rates.{tilt}
-use Rattle.fit.specs.Chains.{places, values, froms}
-use Rattle.fit.proofs.Places.{in_reach}
 use Rattle.fit.proofs.Walk.{keep_end}
 use Rattle.fit.proofs.chain.Chain.add.Goals as goal
 
@@ -13,10 +10,10 @@ returns c =
     let a = y.self.now in
     let k = c.keep-from in
     let z = k.new.self.tail in
-    let l : z + 1 < length a.steps = omega arith in (
+    let same = k.ensures.0 in (
       k.ensures.1,
       omega arith,
-      keep_end tilt (places a.steps) (values a.steps) (froms a.steps) a.head a.tail y.next y.height z k.result (z + 1) _ _ _
-          k.ensures.4 (omega arith) k.ensures.2 k.ensures.3 refl (in_reach (λ t. t.place) a.steps _ l) (in_reach (λ t. t.value) a.steps _ l) (in_reach (λ t. t.from) a.steps _ l)
-          (rw k.ensures.0 (map-set (λ t. t.place) a.steps (z + 1) _)) (rw k.ensures.0 (map-set (λ t. t.value) a.steps (z + 1) _)) (rw k.ensures.0 (map-set (λ t. t.from) a.steps (z + 1) _)),
+      keep_end tilt a.places a.values a.froms a.head a.tail y.next y.height z k.result (z + 1) _ _ _
+          k.ensures.4 (omega arith) k.ensures.2 k.ensures.3 refl (omega arith) (omega arith) (omega arith)
+          (ap (λ (l : List ℕ). set l (z + 1) y.next) same.0) (ap (λ (l : List ℕ). set l (z + 1) y.height) same.1) (ap (λ (l : List ℕ). set l (z + 1) k.result) same.2),
     )

@@ -1,8 +1,6 @@
 -- `Chain::ask` meets its contract.
 use Rattle.std.proofs.Common.{◌+◌, ◌<◌, get_or, refl, arith}
 use Rattle.fit.specs.Rates.{tilt}
-use Rattle.fit.specs.Chains.{places, values, froms}
-use Rattle.fit.proofs.Places.{from_at}
 use Rattle.fit.proofs.Walk.{ask_start, ask_step, ask_end}
 use Rattle.fit.proofs.chain.Chain.ask.Goals as goal
 use Rattle.fit.proofs.chain.Chain.ask.Goals.{then-loop-i-test+else-self-i, else-loop-i-test}
@@ -14,7 +12,7 @@ loop-i-init c =
     record {
       from = omega arith;
       most = c.requires.some;
-      asking = ask_start tilt (places a.steps) (values a.steps) (froms a.steps) a.head a.tail y.next y.height y.slack y.least c.max-p.result (rw c.left_at.ensures at c.max-p.ensures);
+      asking = ask_start tilt a.places a.values a.froms a.head a.tail y.next y.height y.slack y.least c.max-p.result (rw c.left_at.ensures at c.max-p.ensures);
     }
 
 pub loop-i-preserved : goal.loop-i-preserved
@@ -25,8 +23,8 @@ loop-i-preserved c =
     record {
       from = omega arith;
       most = omega arith;
-      asking = ask_step tilt (places a.steps) (values a.steps) (froms a.steps) a.head a.tail y.next y.height y.slack y.least k.i k.p k.invariant.asking (k.i + 1) c.max-p-in-loop-i.result
-          refl c.loop-i-test.true (rw (from_at a.steps (k.i + 1)) c.if-self-i.true) (rw c.left_at-in-loop-i.ensures at c.max-p-in-loop-i.ensures);
+      asking = ask_step tilt a.places a.values a.froms a.head a.tail y.next y.height y.slack y.least k.i k.p k.invariant.asking (k.i + 1) c.max-p-in-loop-i.result
+          refl c.loop-i-test.true c.if-self-i.true (rw c.left_at-in-loop-i.ensures at c.max-p-in-loop-i.ensures);
     }
 
 pub returns : goal.returns
@@ -34,6 +32,6 @@ returns c =
     let y = c.args in
     let a = y.self.now in
     let k = c.loop-i in
-    let stop : k.i < a.tail → k.p < get_or (froms a.steps) (k.i + 1) 0 =
-    elim c.loop-i-test.branch [ then-loop-i-test+else-self-i w ↦ λ h. rw (from_at a.steps (k.i + 1)) w.if-self-i.false | else-loop-i-test w ↦ λ h. absurd (omega arith) ] in
-    (refl, refl, k.invariant.from, ask_end tilt (places a.steps) (values a.steps) (froms a.steps) a.head a.tail y.next y.height y.slack y.least k.i k.p k.invariant.asking stop)
+    let stop : k.i < a.tail → k.p < get_or a.froms (k.i + 1) 0 =
+    elim c.loop-i-test.branch [ then-loop-i-test+else-self-i w ↦ λ h. w.if-self-i.false | else-loop-i-test w ↦ λ h. absurd (omega arith) ] in
+    ((refl, refl, refl), refl, k.invariant.from, ask_end tilt a.places a.values a.froms a.head a.tail y.next y.height y.slack y.least k.i k.p k.invariant.asking stop)

@@ -1,6 +1,5 @@
 use Rattle.std.proofs.Common.{◌-◌, ◌≤◌}
 use Rattle.fit.specs.Rates.{tilt}
-use Rattle.fit.specs.Chains.{places, values, froms}
 use Rattle.fit.proofs.Walk.{Asking}
 use Rattle.fit.proofs.chain.Chain.ask.Given as goal
 
@@ -8,7 +7,7 @@ abbrev pub invariant-loop-i : goal.invariant-loop-i
 invariant-loop-i l = record {
   from : l.self.head ≤ l.i;
   most : l.i ≤ l.self.tail;
-  asking : Asking tilt (places l.self.steps) (values l.self.steps) (froms l.self.steps) l.self.head l.self.tail l.next l.height l.slack l.least l.i l.p;
+  asking : Asking tilt l.self.places l.self.values l.self.froms l.self.head l.self.tail l.next l.height l.slack l.least l.i l.p;
 }
 
 abbrev pub decreases-loop-i : goal.decreases-loop-i

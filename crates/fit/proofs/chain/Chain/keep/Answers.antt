@@ -1,8 +1,6 @@
 -- `Chain::keep` meets its contract.
 use Rattle.std.proofs.Common.{◌-◌, ◌≤◌, arith}
 use Rattle.fit.specs.Rates.{tilt}
-use Rattle.fit.specs.Chains.{places, values, froms}
-use Rattle.fit.proofs.Places.{from_at}
 use Rattle.fit.proofs.Walk.{keep_start, keep_step}
 use Rattle.fit.proofs.chain.Chain.keep.Goals as goal
 
@@ -13,7 +11,7 @@ loop-i-init c =
     record {
       from = c.requires.some;
       most = omega arith;
-      keeping = keep_start tilt (places a.steps) (values a.steps) (froms a.steps) a.head a.tail y.next y.height c.left_at-p.result c.left_at-p.ensures;
+      keeping = keep_start tilt a.places a.values a.froms a.head a.tail y.next y.height c.left_at-p.result c.left_at-p.ensures;
     }
 
 pub loop-i-preserved : goal.loop-i-preserved
@@ -26,6 +24,6 @@ loop-i-preserved c =
     record {
       from = j;
       most = omega arith;
-      keeping = keep_step tilt (places a.steps) (values a.steps) (froms a.steps) a.head a.tail y.next y.height k.i k.p (k.i - 1) r.result
-          k.invariant.keeping (omega arith) j k.invariant.most (rw (from_at a.steps k.i) c.if-p-self.true) r.ensures;
+      keeping = keep_step tilt a.places a.values a.froms a.head a.tail y.next y.height k.i k.p (k.i - 1) r.result
+          k.invariant.keeping (omega arith) j k.invariant.most c.if-p-self.true r.ensures;
     }
