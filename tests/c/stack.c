@@ -16,7 +16,7 @@ static const int64_t two_days[] = {57753, 91234, 402345, -412345600, 37, 1, 5775
 static const int64_t passes[] = {1, 2, 1, 57753, 43200000, 1000, SAMPLES, 10, 1, 2, 1, 57753, 43200000, 1000, SAMPLES, 10};
 static int64_t many_days[DAYS * FRINGE_DAY_NUMBERS], tai_utc[DAYS], samples[SAMPLES], places[FRINGE_MOST_TRACK_NUMBERS];
 static uint8_t whole[FRINGE_RIGHT_FILE_BYTES], damaged[FRINGE_RIGHT_FILE_BYTES], text[FRINGE_MOST_ROWS_BYTES];
-static size_t bytes, text_bytes;
+static size_t bytes, text_bytes, track_numbers;
 
 /* what the calls answer: a struct that is handed out by value has its place in the caller */
 static struct fringe_number answer;
@@ -35,6 +35,7 @@ static struct fringe_angle angle;
 static struct fringe_rotation rotation;
 static struct fringe_host host;
 static int64_t value;
+static const int64_t none = FRINGE_ANSWERED;        /* for calls that refuse nothing */
 
 #define STACK_BYTES (256 * 1024)
 static uint8_t stack[STACK_BYTES];
@@ -48,7 +49,7 @@ static uintptr_t top;
 		__asm__ volatile("mov %%rsp, %0" : "=r"(top) : : "memory"); \
 		of_it; \
 	}
-CALL(all_tracks, all = fringe_all_tracks(whole, bytes, places, 0))
+CALL(all_tracks, all = fringe_all_tracks(whole, bytes, places, 2 * track_numbers))
 CALL(pass_track, answer = fringe_pass_track(whole, bytes, 0, places, COUNT(places)))
 CALL(days_from_rows, days = fringe_days_from_rows(text, text_bytes, 57753, DAYS, tai_utc, DAYS))
 CALL(track, answer = fringe_track(samples, SAMPLES, 0, places, COUNT(places)))
@@ -64,8 +65,8 @@ CALL(station_at, station = fringe_station_at(whole, bytes, 1))
 CALL(source_at, source = fringe_source_at(whole, bytes, 0))
 CALL(day_at, day = fringe_day_at(whole, bytes, 1))
 CALL(pass_at, pass = fringe_pass_at(whole, bytes, 1))
-CALL(predicted, answer = fringe_predict(places, COUNT(places), 4095))
-CALL(host_at, host = fringe_host_at(places, COUNT(places), 4095))
+CALL(predicted, answer = fringe_predict(places, track_numbers, SAMPLES - 1))
+CALL(host_at, host = fringe_host_at(places, track_numbers, SAMPLES - 1))
 CALL(later, epoch = fringe_later(57753, 43200000, 86400000))
 CALL(arguments, ticks = fringe_arguments(57753, 43200000, 37))
 CALL(angle_at, angle = fringe_angle_at(57753, 43200000))
@@ -73,7 +74,8 @@ CALL(rotated, rotation = fringe_rotate(2233382912))
 CALL(sine, value = fringe_sine(2233382912))
 CALL(cosine, value = fringe_cosine(2233382912))
 
-static void reaches(const char *what, void (*call)(void), int64_t most)
+/* Makes the call, and says how deep it came if that is more than `most`. `refusal` is where its answer stands, and must be 0. */
+static void reaches(const char *what, void (*call)(void), const int64_t *refusal, int64_t most)
 {
 	memset(stack, PAINT, sizeof stack);
 	getcontext(&there);
@@ -88,6 +90,7 @@ static void reaches(const char *what, void (*call)(void), int64_t most)
 	int64_t took = (int64_t)(top - (uintptr_t)(stack + deepest));
 	test(what);
 	one(took < most ? most : took, most);
+	one(*refusal, FRINGE_ANSWERED);
 }
 
 static void lists(void)
@@ -101,47 +104,39 @@ static void lists(void)
 		samples[i] = i % 2 ? 10 : 0;
 }
 
-/* The numbers are those of the header, 'Building'. Each call is made once before, in the order in which one needs what another leaves. */
+/* The numbers are those of the header, 'Building'. Some calls need what one before them leaves. */
 void stacks(void)
 {
 	lists();
-	test("the files of the stack");
-	written();
-	one(answer.refusal, FRINGE_ANSWERED);
+	reaches("the stack of fringe_write", written, &answer.refusal, 19000);
 	bytes = (size_t)answer.value;
-	rows_from_days();
-	one(answer.refusal, FRINGE_ANSWERED);
+	reaches("the stack of fringe_rows_from_days", rows_from_days, &answer.refusal, 1000);
 	text_bytes = (size_t)answer.value;
+	reaches("the stack of fringe_days_from_rows", days_from_rows, &days.refusal, 76000);
+	reaches("the stack of fringe_samples", sampled, &answer.refusal, 3400);
+	reaches("the stack of fringe_track", track, &answer.refusal, 63000);
+	reaches("the stack of fringe_pass_track", pass_track, &answer.refusal, 99000);
+	track_numbers = FRINGE_SEGMENT_NUMBERS * (size_t)answer.value;
+	reaches("the stack of fringe_predict", predicted, &answer.refusal, 400);
+	reaches("the stack of fringe_host_at", host_at, &host.refusal, 400);
+	reaches("the stack of fringe_all_tracks", all_tracks, &all.refusal, 165000);
+	reaches("the stack of fringe_tide", tide, &answer.refusal, 3400);
+	reaches("the stack of fringe_orientation", orientation, &earth.refusal, 3400);
+	reaches("the stack of fringe_delay", delay, &answer.refusal, 3400);
+	reaches("the stack of fringe_check", checked, &counts.refusal, 400);
+	reaches("the stack of fringe_station_at", station_at, &station.refusal, 400);
+	reaches("the stack of fringe_source_at", source_at, &source.refusal, 400);
+	reaches("the stack of fringe_day_at", day_at, &day.refusal, 400);
+	reaches("the stack of fringe_pass_at", pass_at, &pass.refusal, 400);
+	reaches("the stack of fringe_later", later, &epoch.refusal, 400);
+	reaches("the stack of fringe_arguments", arguments, &ticks.refusal, 400);
+	reaches("the stack of fringe_angle_at", angle_at, &angle.refusal, 400);
+	reaches("the stack of fringe_rotate", rotated, &none, 400);
+	reaches("the stack of fringe_sine", sine, &none, 400);
+	reaches("the stack of fringe_cosine", cosine, &none, 400);
+	/* a fault is looked for up to the last number of the file */
 	memcpy(damaged, whole, bytes);
 	memset(damaged + bytes - 8, 0xFF, 8);
-	fault();
+	reaches("the stack of fringe_fault", fault, &none, 400);
 	one(place.number, FRINGE_OUT_OF_RANGE);
-	reaches("the stack of fringe_write", written, 19000);
-	reaches("the stack of fringe_rows_from_days", rows_from_days, 1000);
-	reaches("the stack of fringe_all_tracks", all_tracks, 165000);
-	reaches("the stack of fringe_days_from_rows", days_from_rows, 76000);
-	one(days.refusal, FRINGE_ANSWERED);
-	reaches("the stack of fringe_samples", sampled, 3400);
-	one(answer.refusal, FRINGE_ANSWERED);
-	reaches("the stack of fringe_track", track, 63000);
-	one(answer.refusal, FRINGE_ANSWERED);
-	reaches("the stack of fringe_pass_track", pass_track, 99000);
-	one(answer.refusal, FRINGE_ANSWERED);
-	reaches("the stack of fringe_tide", tide, 3400);
-	reaches("the stack of fringe_orientation", orientation, 3400);
-	reaches("the stack of fringe_delay", delay, 3400);
-	reaches("the stack of fringe_check", checked, 400);
-	reaches("the stack of fringe_fault", fault, 400);
-	reaches("the stack of fringe_station_at", station_at, 400);
-	reaches("the stack of fringe_source_at", source_at, 400);
-	reaches("the stack of fringe_day_at", day_at, 400);
-	reaches("the stack of fringe_pass_at", pass_at, 400);
-	reaches("the stack of fringe_predict", predicted, 400);
-	reaches("the stack of fringe_host_at", host_at, 400);
-	reaches("the stack of fringe_later", later, 400);
-	reaches("the stack of fringe_arguments", arguments, 400);
-	reaches("the stack of fringe_angle_at", angle_at, 400);
-	reaches("the stack of fringe_rotate", rotated, 400);
-	reaches("the stack of fringe_sine", sine, 400);
-	reaches("the stack of fringe_cosine", cosine, 400);
 }

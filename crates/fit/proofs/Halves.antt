@@ -1,5 +1,6 @@
 -- The two halves of the search for the longest run: the chain of the samples, and that of the samples upside down.
 use mathlib.Core.Path.{◌≡◌, ap, ◌∙◌}
+use mathlib.Core.List.{List}
 use Prim.Native.Nat.{ℕ, ◌+◌, ◌*◌, ◌≤◌, ◌<◌}
 use native.Mathlib.Nat.{mul-le-mul_left}
 use native.Mathlib.Omega.{arith}
@@ -28,19 +29,18 @@ module _ (g : ℕ → ℕ) (w f : ℕ) where
     pub below : (k c h : ℕ) → k < c → h ≡ (tilt + 1) * c + g (f + c) → (tilt + 1) * k + g (f + k) + 2 * w < h
     below k c h l e = omega (arith, mul-le-mul_left {m = k + 1} {n = c} (tilt + 1) (omega arith), bound (f + k))
 
-    pub safe : (a : Chain) (c h b : ℕ) → b ≤ 2 * w → h ≡ (tilt + 1) * c + g (f + c) → Order g tilt f a.places a.values a.froms a.head a.tail c
-        → Safe a.places a.values a.head a.tail c h b
-    safe a c h b l e o = record {
+    pub safe : (x v q : List ℕ) (i j c h b : ℕ) → b ≤ 2 * w → h ≡ (tilt + 1) * c + g (f + c) → Order g tilt f x v q i j c → Safe x v i j c h b
+    safe x v q i j c h b l e o = record {
       some = o.some;
       before = o.before;
-      small = λ k d r. omega (arith, o.value k d r, below (get_or a.places k 0) c h (o.before k d r) e);
+      small = λ k d r. omega (arith, o.value k d r, below (get_or x k 0) c h (o.before k d r) e);
     }
 
     pub safe_ask : (a : Chain) (c l h : ℕ) → Half g w f a c l → h ≡ (tilt + 1) * c + g (f + c) → Safe a.places a.values a.head a.tail c h (2 * w)
-    safe_ask a c l h k e = safe a c h (2 * w) (omega arith) e k.chain.order
+    safe_ask a c l h k e = safe a.places a.values a.froms a.head a.tail c h (2 * w) (omega arith) e k.chain.order
 
     pub safe_add : (a : Chain) (c p h : ℕ) → Next g w f a c p → h ≡ (tilt + 1) * c + g (f + c) → Safe a.places a.values a.head a.tail c h 0
-    safe_add a c p h k e = safe a c h 0 (omega arith) e k.chain.order
+    safe_add a c p h k e = safe a.places a.values a.froms a.head a.tail c h 0 (omega arith) e k.chain.order
 
     pub paired : (a : Chain) (u v s r : ℕ) → Paired tilt a.places a.values a.froms u v s r → a.head ≡ 0 → a.tail ≡ 1
         → s ≡ 2 * w → u ≡ g f → v ≡ tilt + 1 + g (f + 1) → Half g w f a 2 r
